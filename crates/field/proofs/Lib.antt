@@ -1,0 +1,5 @@
+pub mod Table
+pub mod TableRules
+pub mod Xor
+pub mod ProductLaws
+pub mod Laws

@@ -1,0 +1,16 @@
+pub mod Laws
+pub mod CallTheorems
+pub mod StripeTheorems
+pub mod ArrayTheorems
+pub mod Examples
+pub mod Lists
+pub mod BlockLaws
+pub mod RowLaws
+pub mod WeightRule
+pub mod Sums
+pub mod ColumnLaws
+pub mod PlaceLaws
+pub mod ParityLaws
+pub mod GatherLaws
+pub mod CallLaws
+pub mod RestoreLaws

@@ -1,0 +1,134 @@
+// P and Q of a stripe, made where its blocks stand in an array.
+//
+// A stripe is taken 64 columns at a time, so that the two sums of these are small while the data
+// blocks are added to them, from the last to the first: Q by Horner's rule, which takes a doubling a
+// block and no product.
+use super::places;
+ghost use mathlib.Core.Path.{_≡_};
+ghost use mathlib.Core.List.{List};
+ghost use Prim.Native.Nat.{ℕ, _+_, _*_, _≤_, _<_};
+ghost use lib.ListN.{length};
+ghost use Rattle.stripe.specs.Parity.{parityP, parityQ};
+ghost use Rattle.stripe.specs.Places.{inOrder, place, numbered, byColumn, parityMade, parityMadeAll, Placed, Whole, Measures};
+ghost use Rattle.stripe.specs.Steps.{Starts, later, taken, plus, twicePlus, Apart, PutRows, Partly};
+
+// Makes P and Q of every stripe of the array, of stripes stripes.
+pub fn make_all_parity(array: &mut [u8], d: usize, stripes: usize, b: usize)
+    requires { ⌜ (2 ≤ d) × ((d ≤ 16) × ((stripes ≤ 65536) × ((1 ≤ b) × ((b ≤ 4096) × (length (now array) ≡ (d + 2) * stripes * b))))) ⌝ }
+    ensures { λ _. ⌜ now (array .exit) ≡ parityMadeAll stripes (place d stripes) d b (now (array .entry)) ⌝ }
+{
+    let mut s: usize = 0;
+    while s < stripes {
+        make_parity(array, d, stripes, s, b);
+        s += 1;
+    }
+}
+
+// Makes P and Q of stripe s of the array, of stripes stripes.
+pub fn make_parity(array: &mut [u8], d: usize, stripes: usize, s: usize, b: usize)
+    requires { ⌜ Measures d stripes s b (length (now array)) ⌝ }
+    ensures { λ _. ⌜ now (array .exit) ≡ parityMade (place d stripes s) d b (now (array .entry)) ⌝ }
+{
+    let ns = places::block_numbers(d, stripes, s);
+    make_at(array, &ns, d, b);
+}
+
+// Makes P and Q of a stripe in a buffer of its own.
+pub fn make_own_parity(stripe: &mut [u8], d: usize, b: usize)
+    requires { ⌜ Whole d b (length (now stripe)) ⌝ }
+    ensures { λ _. ⌜ now (stripe .exit) ≡ parityMade inOrder d b (now (stripe .entry)) ⌝ }
+{
+    let ns = places::own_numbers(d);
+    make_at(stripe, &ns, d, b);
+}
+
+// Makes P and Q of the stripe whose blocks have the numbers of the table ns.
+fn make_at(array: &mut [u8], ns: &[usize], d: usize, b: usize)
+    requires { ⌜ (1 ≤ d) × ((1 ≤ b) × ((b ≤ 4096) × Placed (d + 2) b (length (now array)) (now ns))) ⌝ }
+    ensures { λ _. ⌜ now (array .exit) ≡ parityMade (numbered (now (ns .entry))) d b (now (array .entry)) ⌝ }
+{
+    let mut o: usize = 0;
+    while o + 64 <= b {
+        make_chunk(array, ns, d, b, o, 64);
+        o += 64;
+    }
+    if o < b {
+        make_chunk(array, ns, d, b, o, b - o);
+    }
+}
+
+// Makes columns o to o + w - 1 of P and Q.
+fn make_chunk(array: &mut [u8], ns: &[usize], d: usize, b: usize, o: usize, w: usize)
+    requires { ⌜ (1 ≤ d) × ((w ≤ 64) × ((o + w ≤ b) × Placed (d + 2) b (length (now array)) (now ns))) ⌝ }
+    ensures { λ _. ⌜ ((a₀ : List ℕ) → Partly (numbered (now (ns .entry))) d b o a₀ (now (array .entry)) → Partly (numbered (now (ns .entry))) d b (o + w) a₀ (now (array .exit))) ⌝ }
+{
+    let mut p = [0u8; 64];
+    let mut q = [0u8; 64];
+    sums(array, ns, &mut p, &mut q, d, b, o, w);
+    let atp = ns[d] * b + o;
+    let atq = ns[d + 1] * b + o;
+    put_rows(array, atp, atq, &p, &q, w);
+}
+
+// Sums up columns o to o + w - 1 of P in p and of Q in q.
+fn sums(
+    array: &[u8],
+    ns: &[usize],
+    p: &mut [u8],
+    q: &mut [u8],
+    d: usize,
+    b: usize,
+    o: usize,
+    w: usize,
+)
+    requires { ⌜ (1 ≤ d) × ((w ≤ length (now p)) × ((w ≤ length (now q)) × ((o + w ≤ b) × Placed (d + 2) b (length (now array)) (now ns)))) ⌝ }
+    ensures { λ _. ⌜ Starts w (now (p .exit)) (later (byColumn (parityP d) (numbered (now (ns .entry))) b (now (array .entry))) o) × Starts w (now (q .exit)) (later (byColumn (parityQ d) (numbered (now (ns .entry))) b (now (array .entry))) o) ⌝ }
+{
+    let mut i = d - 1;
+    first_row(array, ns[i] * b + o, p, q, w);
+    while 0 < i {
+        i -= 1;
+        next_row(array, ns[i] * b + o, p, q, w);
+    }
+}
+
+// Sets p and q to the w bytes of src from at on.
+fn first_row(src: &[u8], at: usize, p: &mut [u8], q: &mut [u8], w: usize)
+    requires { ⌜ (at + w ≤ length (now src)) × ((w ≤ length (now p)) × (w ≤ length (now q))) ⌝ }
+    ensures { λ _. ⌜ Starts w (now (p .exit)) (taken at (now (src .entry))) × Starts w (now (q .exit)) (taken at (now (src .entry))) ⌝ }
+{
+    let mut j: usize = 0;
+    while j < w {
+        let v = src[at + j];
+        p[j] = v;
+        q[j] = v;
+        j += 1;
+    }
+}
+
+// Adds the w bytes of src from at on to p, and to twice q.
+fn next_row(src: &[u8], at: usize, p: &mut [u8], q: &mut [u8], w: usize)
+    requires { ⌜ (at + w ≤ length (now src)) × ((w ≤ length (now p)) × (w ≤ length (now q))) ⌝ }
+    ensures { λ _. ⌜ Starts w (now (p .exit)) (plus (taken at (now (src .entry))) (now (p .entry))) × Starts w (now (q .exit)) (twicePlus (taken at (now (src .entry))) (now (q .entry))) ⌝ }
+{
+    let mut j: usize = 0;
+    while j < w {
+        let v = src[at + j];
+        p[j] = p[j] ^ v;
+        q[j] = field::twice(q[j]) ^ v;
+        j += 1;
+    }
+}
+
+// Stores the first w bytes of p from atp on and those of q from atq on.
+fn put_rows(array: &mut [u8], atp: usize, atq: usize, p: &[u8], q: &[u8], w: usize)
+    requires { ⌜ (atp + w ≤ length (now array)) × ((atq + w ≤ length (now array)) × ((w ≤ length (now p)) × ((w ≤ length (now q)) × Apart atp atq w))) ⌝ }
+    ensures { λ _. ⌜ PutRows atp atq w (now (p .entry)) (now (q .entry)) (now (array .entry)) (now (array .exit)) ⌝ }
+{
+    let mut j: usize = 0;
+    while j < w {
+        array[atp + j] = p[j];
+        array[atq + j] = q[j];
+        j += 1;
+    }
+}

@@ -1,0 +1,57 @@
+//! The tests of the stripe library. Each group calls the archives and compares what they answer and store with
+//! published values, or with arithmetic that shares nothing with the library. A line is printed for each group; the
+//! program stops at the first failure, with status 1.
+
+mod arrays;
+mod calls;
+mod examples;
+mod field;
+mod model;
+mod products;
+mod published;
+mod random;
+mod recovery;
+mod refusals;
+mod stripes;
+
+use std::process::ExitCode;
+
+/// What a group hands back: what it covered, or what went wrong.
+pub type Outcome = Result<String, String>;
+
+/// A group: a function of the seed of its random bytes.
+type Group = fn(u64) -> Outcome;
+
+/// The groups in the order in which they run.
+const GROUPS: [(&str, Group); 7] = [
+    ("field", field::group),
+    ("products", products::group),
+    ("examples", examples::group),
+    ("stripes", stripes::group),
+    ("recovery", recovery::group),
+    ("refusals", refusals::group),
+    ("arrays", arrays::group),
+];
+
+/// Runs the groups one after another, up to the first that fails.
+fn run() -> Result<(), String> {
+    let seed = random::seed()?;
+    for (name, group) in GROUPS {
+        match group(seed) {
+            Ok(covered) => println!("{name}: {covered}"),
+            Err(fault) => return Err(format!("{name}: FAILED: {fault}; seed {seed}")),
+        }
+    }
+    Ok(())
+}
+
+/// Prints the failure, if there is one, and turns it into the exit status.
+fn main() -> ExitCode {
+    match run() {
+        Ok(()) => ExitCode::SUCCESS,
+        Err(fault) => {
+            println!("{fault}");
+            ExitCode::FAILURE
+        }
+    }
+}
