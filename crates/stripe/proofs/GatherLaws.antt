@@ -19,7 +19,7 @@ use Rattle.field.proofs.Laws.{xor-assoc, xor-comm, xor-zero-l, xor-zero-r, one-
 use Rattle.stripe.specs.Blocks.{gen, byteOf}
 use Rattle.stripe.specs.Parity.{pick, sum, one, weight, parityP, parityQ, without, restP, restQ, fromP, fromQ, fromBoth, solved}
 use Rattle.stripe.specs.Places.{numbered, columnAt, byColumn}
-use Rattle.stripe.specs.Steps.{Starts, zeros, taken, plus, twicePlus, doubled, scaled, there, thereP, standIn, standing, standingQ, comesFromP, coefficient}
+use Rattle.stripe.specs.Steps.{Gathers, Starts, zeros, taken, plus, twicePlus, doubled, scaled, there, thereP, standIn, standing, standingQ, comesFromP, coefficient}
 use Rattle.stripe.proofs.Lists.{less-or-not, getD-gen, gen-of, gen-ext}
 use Rattle.stripe.proofs.Sums.{same-or-not, pick-same, pick-other, pick-less, pick-not-less, without-first, without-second, without-other, horner, horner-sum, either-false}
 use Rattle.stripe.proofs.ColumnLaws.{parityQ-ext, restP-byte, solved-same, solved-both, solved-no-p, solved-no-q, numerator, standIn-plain}
@@ -40,6 +40,10 @@ bytes-append x y hx hy i =
     (λ p. let e : i ≡ length x + (i - length x) = omega arith in
     subst (λ (k : ℕ). k < 256) (sym (ap (λ (k : ℕ). getD (x ++ y) k 0) e ∙ getD-append-add x y (i - length x) 0)) (hy (i - length x)))
     (less-or-not i (length x))
+
+-- the same arguments with another working block
+pub gathers-with : {d n b : ℕ} {array log ns w : List ℕ} (v : List ℕ) → length v ≡ b → Gathers d n b array log ns w → Gathers d n b array log ns v
+gathers-with v e g = record { data-most = g .data-most; whole = g .whole; held = g .held; working = e }
 
 plus-ext : (b : ℕ) (f g : ℕ → ℕ) (w : List ℕ) → ((j : ℕ) → j < b → f j ≡ g j) → gen b (plus f w) ≡ gen b (plus g w)
 unfolding plus

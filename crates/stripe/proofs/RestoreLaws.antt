@@ -16,7 +16,7 @@ use Rattle.field.proofs.Laws.{xor-zero-l}
 use Rattle.stripe.specs.Blocks.{gen, block, byteOf, put}
 use Rattle.stripe.specs.Parity.{pick, parityP, parityQ, made, without, solved, dataSolved, recovered}
 use Rattle.stripe.specs.Places.{inOrder, numbered, columnAt, byColumn, Tabled, Held, Whole}
-use Rattle.stripe.specs.Steps.{Starts, zeros, plus, thereP, standIn, standingQ, Workable, replaced, replacedIf, firstStep, isSecond, otherMissing, secondStep, pStep, qStep}
+use Rattle.stripe.specs.Steps.{Gathers, Starts, zeros, plus, thereP, standIn, standingQ, Workable, replaced, replacedIf, firstStep, isSecond, otherMissing, secondStep, pStep, qStep}
 use Rattle.stripe.specs.Calls.{eachColumn}
 use Rattle.stripe.proofs.Lists.{less-or-not, length-gen, gen-ext}
 use Rattle.stripe.proofs.BlockLaws.{fits, ext-bytes}
@@ -304,12 +304,15 @@ module _ (d b : ℕ) (l w ns : List ℕ) (ok : Workable d b l w ns) where
   stripe-long = ok .measures .size-is
 
   -- the table, for the sums over the stripe alone
-  pub held : Held (d + 2) b (length l + length {A = ℕ} []) ns
+  held : Held (d + 2) b (length l + length {A = ℕ} []) ns
   held =
       record {
         long = ok .long;
         within = λ i h. subst (λ (k : ℕ). k * b + b ≤ length l + 0) (sym (ok .table i h ∙ in-order i)) (omega (arith, fits i (d + 2) b l stripe-long h));
       }
+
+  pub gathers : (v : List ℕ) → length v ≡ b → Gathers d (d + 2) b l [] ns v
+  gathers v e = record { data-most = ok .measures .data-most; whole = stripe-long; held = held; working = e }
 
   pub data-put : (x y : ℕ) (v n : List ℕ) → x < d → v ≡ gen b (byColumn (solved d x y) (numbered ns) b (l ++ [])) → n ≡ put b x (block b 0 v) l
       → n ≡ eachColumn (replaced x (solved d x y)) d b l

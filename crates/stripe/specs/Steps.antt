@@ -4,14 +4,14 @@ use mathlib.Core.Bool.{Bool, not, _&&_, _||_}
 use mathlib.Core.List.{List}
 use mathlib.Core.Logic.{_⊎_, _≢_}
 use mathlib.Core.Path.{_≡_}
-use Prim.Native.Nat.{ℕ, _+_, _≤_, _<_}
+use Prim.Native.Nat.{ℕ, _+_, _*_, _≤_, _<_}
 use lib.Bits.{bitXor}
 use lib.Dec.{eqb, ltb}
 use lib.ListN.{length, getD}
 use Rattle.field.specs.Field.{double, times}
 use Rattle.stripe.specs.Blocks.{byteOf}
 use Rattle.stripe.specs.Parity.{pick, weight, without, restP, parityP, parityQ, solved}
-use Rattle.stripe.specs.Places.{inOrder, byColumn, Tabled, Whole}
+use Rattle.stripe.specs.Places.{inOrder, byColumn, Tabled, Held, Whole}
 
 -- ---- rows of bytes
 
@@ -61,6 +61,10 @@ pub record PutRows (atp atq w : ℕ) (p q a₀ a : List ℕ) : Type 0 where
 
 -- ---- parity, made some columns at a time
 
+-- p and q start with columns o to o + w - 1 of the P and the Q that the stripe's data gives
+abbrev pub SumsAt : (ℕ → ℕ) → ℕ → ℕ → List ℕ → ℕ → ℕ → List ℕ → List ℕ → Type 0
+SumsAt at d b a o w p q = Starts w p (later (byColumn (parityP d) at b a) o) × Starts w q (later (byColumn (parityQ d) at b a) o)
+
 -- the array a is a₀ but for the stripe's P and Q, whose first o columns are made of a₀'s data
 pub record Partly (at : ℕ → ℕ) (d b o : ℕ) (a₀ a : List ℕ) : Type 0 where
   pub same-length : length a ≡ length a₀
@@ -69,6 +73,14 @@ pub record Partly (at : ℕ → ℕ) (d b o : ℕ) (a₀ a : List ℕ) : Type 0 
   pub others : (n j : ℕ) → j < b → n ≢ at d → n ≢ at (d + 1) → byteOf b a n j ≡ byteOf b a₀ n j
 
 -- ---- recovery, role by role
+
+-- what a sum over the blocks of a stripe asks of its arguments: at most 16 data blocks, an array of n blocks, a table of block numbers of the array
+-- with the log behind it, and a working block of b bytes
+pub record Gathers (d n b : ℕ) (array log ns work : List ℕ) : Type 0 where
+  pub data-most : d ≤ 16
+  pub whole : length array ≡ n * b
+  pub held : Held (d + 2) b (length array + length log) ns
+  pub working : length work ≡ b
 
 -- what data i gives to the sum for P where x and y are missing, and the sum
 unfoldable pub there : ℕ → ℕ → ℕ → (ℕ → ℕ) → ℕ

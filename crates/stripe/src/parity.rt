@@ -8,9 +8,8 @@ ghost use mathlib.Core.Path.{_≡_};
 ghost use mathlib.Core.List.{List};
 ghost use Prim.Native.Nat.{ℕ, _+_, _*_, _≤_, _<_};
 ghost use lib.ListN.{length};
-ghost use Rattle.stripe.specs.Parity.{parityP, parityQ};
-ghost use Rattle.stripe.specs.Places.{inOrder, place, numbered, byColumn, parityMade, parityMadeAll, Placed, Whole, Measures};
-ghost use Rattle.stripe.specs.Steps.{Starts, later, taken, plus, twicePlus, Apart, PutRows, Partly};
+ghost use Rattle.stripe.specs.Places.{inOrder, place, numbered, parityMade, parityMadeAll, Placed, Whole, Measures};
+ghost use Rattle.stripe.specs.Steps.{Starts, SumsAt, taken, plus, twicePlus, Apart, PutRows, Partly};
 
 // Makes P and Q of every stripe of the array, of stripes stripes.
 pub fn make_all_parity(array: &mut [u8], d: usize, stripes: usize, b: usize)
@@ -82,7 +81,7 @@ fn sums(
     w: usize,
 )
     requires { ⌜ (1 ≤ d) × ((w ≤ length (now p)) × ((w ≤ length (now q)) × ((o + w ≤ b) × Placed (d + 2) b (length (now array)) (now ns)))) ⌝ }
-    ensures { λ _. ⌜ Starts w (now (p .exit)) (later (byColumn (parityP d) (numbered (now (ns .entry))) b (now (array .entry))) o) × Starts w (now (q .exit)) (later (byColumn (parityQ d) (numbered (now (ns .entry))) b (now (array .entry))) o) ⌝ }
+    ensures { λ _. ⌜ SumsAt (numbered (now (ns .entry))) d b (now (array .entry)) o w (now (p .exit)) (now (q .exit)) ⌝ }
 {
     let mut i = d - 1;
     first_row(array, ns[i] * b + o, p, q, w);

@@ -11,8 +11,8 @@ ghost use Prim.Native.Nat.{_+_, _*_, _≤_, _<_};
 ghost use lib.ListN.{length};
 ghost use Rattle.stripe.specs.Blocks.{gen};
 ghost use Rattle.stripe.specs.Parity.{restP, solved};
-ghost use Rattle.stripe.specs.Places.{numbered, byColumn, Held};
-ghost use Rattle.stripe.specs.Steps.{Starts, taken, plus, twicePlus, there, thereP, standing, standingQ, comesFromP, coefficient, zeros};
+ghost use Rattle.stripe.specs.Places.{numbered, byColumn};
+ghost use Rattle.stripe.specs.Steps.{Gathers, Starts, taken, plus, twicePlus, there, thereP, standing, standingQ, comesFromP, coefficient, zeros};
 
 // Works back data block x in work, where y is missing too or is x itself.
 pub fn solve(
@@ -26,7 +26,7 @@ pub fn solve(
     x: usize,
     y: usize,
 )
-    requires { ⌜ (d ≤ 16) × ((x < d) × ((y < d + 2) × ((length (now work) ≡ b) × ((length (now array) ≡ n * b) × Held (d + 2) b (length (now array) + length (now log)) (now ns))))) ⌝ }
+    requires { ⌜ Gathers d n b (now array) (now log) (now ns) (now work) × ((x < d) × (y < d + 2)) ⌝ }
     ensures { λ _. ⌜ now (work .exit) ≡ gen b (byColumn (solved d x y) (numbered (now (ns .entry))) b (now (array .entry) ++ now (log .entry))) ⌝ }
 {
     rows::clear_row(work, b);
@@ -45,7 +45,7 @@ fn solve_cleared(
     x: usize,
     y: usize,
 )
-    requires { ⌜ (d ≤ 16) × ((x < d) × ((y < d + 2) × ((length (now work) ≡ b) × (Starts b (now work) zeros × ((length (now array) ≡ n * b) × Held (d + 2) b (length (now array) + length (now log)) (now ns)))))) ⌝ }
+    requires { ⌜ Gathers d n b (now array) (now log) (now ns) (now work) × (Starts b (now work) zeros × ((x < d) × (y < d + 2))) ⌝ }
     ensures { λ _. ⌜ now (work .exit) ≡ gen b (byColumn (solved d x y) (numbered (now (ns .entry))) b (now (array .entry) ++ now (log .entry))) ⌝ }
 {
     if comes_from_p(d, x, y) {
@@ -67,7 +67,7 @@ fn solve_by_q(
     x: usize,
     y: usize,
 )
-    requires { ⌜ (d ≤ 16) × ((x < d) × ((y ≤ d) × ((x ≡ y → ⊥) × ((length (now work) ≡ b) × (Starts b (now work) zeros × ((length (now array) ≡ n * b) × Held (d + 2) b (length (now array) + length (now log)) (now ns))))))) ⌝ }
+    requires { ⌜ Gathers d n b (now array) (now log) (now ns) (now work) × (Starts b (now work) zeros × ((x < d) × ((y ≤ d) × (x ≡ y → ⊥)))) ⌝ }
     ensures { λ _. ⌜ now (work .exit) ≡ gen b (byColumn (solved d x y) (numbered (now (ns .entry))) b (now (array .entry) ++ now (log .entry))) ⌝ }
 {
     add_weighted(array, log, n, ns, work, d, b, x, y);
@@ -109,7 +109,7 @@ fn add_rest(
     x: usize,
     y: usize,
 )
-    requires { ⌜ (d ≤ 16) × ((length (now work) ≡ b) × ((length (now array) ≡ n * b) × Held (d + 2) b (length (now array) + length (now log)) (now ns))) ⌝ }
+    requires { ⌜ Gathers d n b (now array) (now log) (now ns) (now work) ⌝ }
     ensures { λ _. ⌜ now (work .exit) ≡ gen b (plus (byColumn (restP d x y) (numbered (now (ns .entry))) b (now (array .entry) ++ now (log .entry))) (now (work .entry))) ⌝ }
 {
     add_block(array, log, n, ns[d], work, b);
@@ -128,7 +128,7 @@ pub fn add_data(
     x: usize,
     y: usize,
 )
-    requires { ⌜ (d ≤ 16) × ((length (now work) ≡ b) × ((length (now array) ≡ n * b) × Held (d + 2) b (length (now array) + length (now log)) (now ns))) ⌝ }
+    requires { ⌜ Gathers d n b (now array) (now log) (now ns) (now work) ⌝ }
     ensures { λ _. ⌜ now (work .exit) ≡ gen b (plus (byColumn (thereP d x y) (numbered (now (ns .entry))) b (now (array .entry) ++ now (log .entry))) (now (work .entry))) ⌝ }
 {
     let mut i: usize = 0;
@@ -151,7 +151,7 @@ fn add_there(
     y: usize,
     i: usize,
 )
-    requires { ⌜ (d ≤ 16) × ((i < d) × ((length (now work) ≡ b) × ((length (now array) ≡ n * b) × Held (d + 2) b (length (now array) + length (now log)) (now ns)))) ⌝ }
+    requires { ⌜ Gathers d n b (now array) (now log) (now ns) (now work) × (i < d) ⌝ }
     ensures { λ _. ⌜ now (work .exit) ≡ gen b (plus (byColumn (there x y i) (numbered (now (ns .entry))) b (now (array .entry) ++ now (log .entry))) (now (work .entry))) ⌝ }
 {
     if i == x {
@@ -176,7 +176,7 @@ pub fn add_weighted(
     x: usize,
     y: usize,
 )
-    requires { ⌜ (d ≤ 16) × ((length (now work) ≡ b) × (Starts b (now work) zeros × ((length (now array) ≡ n * b) × Held (d + 2) b (length (now array) + length (now log)) (now ns)))) ⌝ }
+    requires { ⌜ Gathers d n b (now array) (now log) (now ns) (now work) × Starts b (now work) zeros ⌝ }
     ensures { λ _. ⌜ now (work .exit) ≡ gen b (byColumn (standingQ d x y) (numbered (now (ns .entry))) b (now (array .entry) ++ now (log .entry))) ⌝ }
 {
     let mut i = d;
@@ -199,7 +199,7 @@ fn horner_step(
     y: usize,
     i: usize,
 )
-    requires { ⌜ (d ≤ 16) × ((i < d) × ((length (now work) ≡ b) × ((length (now array) ≡ n * b) × Held (d + 2) b (length (now array) + length (now log)) (now ns)))) ⌝ }
+    requires { ⌜ Gathers d n b (now array) (now log) (now ns) (now work) × (i < d) ⌝ }
     ensures { λ _. ⌜ now (work .exit) ≡ gen b (twicePlus (byColumn (standing d x y i) (numbered (now (ns .entry))) b (now (array .entry) ++ now (log .entry))) (now (work .entry))) ⌝ }
 {
     if i == x {

@@ -9,7 +9,7 @@ use borrow.Author.Needs.{needs}
 use Rattle.stripe.specs.Steps.{plus, thereP}
 use Rattle.stripe.specs.Blocks.{gen}
 use Rattle.stripe.specs.Places.{numbered, byColumn}
-use Rattle.stripe.proofs.GatherLaws.{bytes-append, data-none, data-more}
+use Rattle.stripe.proofs.GatherLaws.{bytes-append, data-none, data-more, gathers-with}
 use Rattle.stripe.proofs.recovery.add_data.Statement.{statement}
 use Rattle.stripe.proofs.recovery.add_data.Tie as tie
 
@@ -23,13 +23,13 @@ loop-holds : tie.Need-loop-holds Inv-loop μ-loop
 loop-holds c =
     let a = c .before .before .before .before .args in
     let pre = c .before .before .before .before .pre in
-    (zero-le, (pre .1 .0, data-none (a .ns .now) (a .b) (a .array .now ++ a .log .now) (a .work .now) (pre .1 .0) (a .x) (a .y)))
+    (zero-le, (pre .working, data-none (a .ns .now) (a .b) (a .array .now ++ a .log .now) (a .work .now) (pre .working) (a .x) (a .y)))
 
 add-there-requires : tie.Need-add-there-requires Inv-loop μ-loop
 add-there-requires c κs =
     let at-loop = c .before .before .loop in
     let pre = c .before .before .before .before .before .before .before .pre in
-    (pre .0, (c .before .loop-test .taken, (at-loop .inv .1 .0, pre .1 .1)))
+    (gathers-with _ (at-loop .inv .1 .0) pre, c .before .loop-test .taken)
 
 add-i : tie.Need-add-i Inv-loop μ-loop
 add-i c = search needs

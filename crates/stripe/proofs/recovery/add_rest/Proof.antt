@@ -3,7 +3,7 @@
 use mathlib.Core.List.{_++_}
 use native.Mathlib.Omega.{arith}
 use borrow.Author.Needs.{needs}
-use Rattle.stripe.proofs.GatherLaws.{rest-both}
+use Rattle.stripe.proofs.GatherLaws.{rest-both, gathers-with}
 use Rattle.stripe.proofs.recovery.add_rest.Statement.{statement}
 use Rattle.stripe.proofs.recovery.add_rest.Tie as tie
 
@@ -17,12 +17,12 @@ add-block-requires : tie.Need-add-block-requires
 add-block-requires c κs =
     let a = c .before .before .before .before .before .before .args in
     let pre = c .before .before .before .before .before .before .pre in
-    (pre .1 .0, (pre .1 .1 .0, pre .1 .1 .1 .within (a .d) (omega arith)))
+    (pre .working, (pre .whole, pre .held .within (a .d) (omega arith)))
 
 add-data-requires : tie.Need-add-data-requires
 add-data-requires c κs =
     let pre = c .before .before .before .before .before .before .before .before .before .before .pre in
-    (pre .0, (search needs, pre .1 .1))
+    gathers-with _ (search needs) pre
 
 same-length : tie.Need-same-length
 same-length c = search needs

@@ -11,12 +11,12 @@ use Rattle.stripe.proofs.recovery.add_there.Tie as tie
 returns : tie.Need-returns
 returns c =
     let a = c .before .before .before .before .before .args in
-    there-none (a .ns .now) (a .b) (a .array .now ++ a .log .now) (a .work .now) (c .before .before .before .before .before .pre .1 .1 .0) (a .x) (a .y) (a .i) (inl (c .if1 .taken))
+    there-none (a .ns .now) (a .b) (a .array .now ++ a .log .now) (a .work .now) (c .before .before .before .before .before .pre .0 .working) (a .x) (a .y) (a .i) (inl (c .if1 .taken))
 
 returns-2 : tie.Need-returns-2
 returns-2 c =
     let a = c .before .before .before .before .before .before .args in
-    there-none (a .ns .now) (a .b) (a .array .now ++ a .log .now) (a .work .now) (c .before .before .before .before .before .before .pre .1 .1 .0) (a .x) (a .y) (a .i) (inr (c .if2 .taken))
+    there-none (a .ns .now) (a .b) (a .array .now ++ a .log .now) (a .work .now) (c .before .before .before .before .before .before .pre .0 .working) (a .x) (a .y) (a .i) (inr (c .if2 .taken))
 
 mul-add-block : tie.Need-mul-add-block
 mul-add-block c = search needs
@@ -28,7 +28,7 @@ add-block-requires : tie.Need-add-block-requires
 add-block-requires c κs =
     let a = c .before .before .before .before .before .before .before .before .args in
     let pre = c .before .before .before .before .before .before .before .before .pre in
-    (pre .1 .1 .0, (pre .1 .1 .1 .0, pre .1 .1 .1 .1 .within (a .i) (omega arith)))
+    (pre .0 .working, (pre .0 .whole, pre .0 .held .within (a .i) (omega arith)))
 
 same-length : tie.Need-same-length
 same-length c = search needs

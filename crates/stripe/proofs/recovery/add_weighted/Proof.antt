@@ -9,7 +9,7 @@ use lib.ListN.{length}
 use borrow.Author.Needs.{needs}
 use Rattle.stripe.specs.Blocks.{gen}
 use Rattle.stripe.specs.Places.{numbered, byColumn}
-use Rattle.stripe.proofs.GatherLaws.{bytes-append, weighted-none, weighted-more, weighted-all, standingFrom}
+use Rattle.stripe.proofs.GatherLaws.{bytes-append, weighted-none, weighted-more, weighted-all, standingFrom, gathers-with}
 use Rattle.stripe.proofs.recovery.add_weighted.Statement.{statement}
 use Rattle.stripe.proofs.recovery.add_weighted.Tie as tie
 
@@ -23,7 +23,7 @@ loop-holds : tie.Need-loop-holds Inv-loop μ-loop
 loop-holds c =
     let a = c .before .before .before .before .args in
     let pre = c .before .before .before .before .pre in
-    (le-refl (a .d), (pre .1 .0, weighted-none (a .ns .now) (a .b) (a .array .now ++ a .log .now) (a .work .now) (pre .1 .0) (a .d) (a .x) (a .y) (a .d) refl (pre .1 .1 .0)))
+    (le-refl (a .d), (pre .0 .working, weighted-none (a .ns .now) (a .b) (a .array .now ++ a .log .now) (a .work .now) (pre .0 .working) (a .d) (a .x) (a .y) (a .d) refl (pre .1)))
 
 sub-i : tie.Need-sub-i Inv-loop μ-loop
 sub-i c = search needs
@@ -32,7 +32,7 @@ horner-step-requires : tie.Need-horner-step-requires Inv-loop μ-loop
 horner-step-requires c κs =
     let at-loop = c .before .before .loop in
     let pre = c .before .before .before .before .before .before .before .pre in
-    (pre .0, (omega arith, (at-loop .inv .1 .0, pre .1 .1 .1)))
+    (gathers-with _ (at-loop .inv .1 .0) (pre .0), omega arith)
 
 loop-less : tie.Need-loop-less Inv-loop μ-loop
 loop-less c = search needs

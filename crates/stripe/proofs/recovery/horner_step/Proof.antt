@@ -3,7 +3,7 @@
 use mathlib.Core.List.{_++_}
 use native.Mathlib.Omega.{arith}
 use borrow.Author.Needs.{needs}
-use Rattle.stripe.proofs.GatherLaws.{step-first, step-second, step-other}
+use Rattle.stripe.proofs.GatherLaws.{step-first, step-second, step-other, gathers-with}
 use Rattle.stripe.proofs.recovery.horner_step.Statement.{statement}
 use Rattle.stripe.proofs.recovery.horner_step.Tie as tie
 
@@ -24,7 +24,7 @@ double-row-requires-2 c κs = search needs
 add-rest-requires : tie.Need-add-rest-requires
 add-rest-requires c κs =
     let pre = c .before .before .before .before .before .before .before .before .before .before .before .pre in
-    (pre .0, (search needs, pre .1 .1 .1))
+    gathers-with _ (search needs) (pre .0)
 
 same-length-2 : tie.Need-same-length-2
 same-length-2 c = search needs
@@ -44,7 +44,7 @@ double-add-block-requires : tie.Need-double-add-block-requires
 double-add-block-requires c κs =
     let a = c .before .before .before .before .before .before .before .before .args in
     let pre = c .before .before .before .before .before .before .before .before .pre in
-    (pre .1 .1 .0, (pre .1 .1 .1 .0, pre .1 .1 .1 .1 .within (a .i) (omega arith)))
+    (pre .0 .working, (pre .0 .whole, pre .0 .held .within (a .i) (omega arith)))
 
 same-length-3 : tie.Need-same-length-3
 same-length-3 c = search needs

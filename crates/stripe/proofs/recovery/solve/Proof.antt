@@ -2,6 +2,7 @@
 -- Assumes nothing.
 use mathlib.Core.Path.{_∙_}
 use borrow.Author.Needs.{needs}
+use Rattle.stripe.proofs.GatherLaws.{gathers-with}
 use Rattle.stripe.proofs.recovery.solve.Statement.{statement}
 use Rattle.stripe.proofs.recovery.solve.Tie as tie
 
@@ -11,7 +12,7 @@ clear-row-requires c κs = search needs
 solve-cleared-requires : tie.Need-solve-cleared-requires
 solve-cleared-requires c κs =
     let pre = c .before .before .before .before .before .before .before .before .before .pre in
-    (pre .0, (pre .1 .0, (pre .1 .1 .0, (c .before .before .work .given ∙ pre .1 .1 .1 .0, (c .before .before .before .clear-row .ensures, pre .1 .1 .1 .1)))))
+    (gathers-with _ (c .before .before .work .given ∙ pre .0 .working) (pre .0), (c .before .before .before .clear-row .ensures, pre .1))
 
 same-length : tie.Need-same-length
 same-length c = search needs

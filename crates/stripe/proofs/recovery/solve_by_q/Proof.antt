@@ -13,7 +13,7 @@ use Rattle.stripe.proofs.recovery.solve_by_q.Tie as tie
 add-weighted-requires : tie.Need-add-weighted-requires
 add-weighted-requires c κs =
     let pre = c .before .before .before .before .before .pre in
-    (pre .0, pre .1 .1 .1 .1)
+    (pre .0, pre .1 .0)
 
 add-add-block : tie.Need-add-add-block
 add-add-block c = search needs
@@ -27,13 +27,13 @@ shared-slice-read-add-block c = search needs
 add-block-requires : tie.Need-add-block-requires
 add-block-requires c κs =
     let a = c .before .before .before .before .before .before .before .before .before .before .args in
-    let rest = c .before .before .before .before .before .before .before .before .before .before .pre .1 .1 .1 .1 .1 .1 in
-    (search needs, (rest .0, rest .1 .within (a .d + 1) (omega arith)))
+    let rest = c .before .before .before .before .before .before .before .before .before .before .pre .0 in
+    (search needs, (rest .whole, rest .held .within (a .d + 1) (omega arith)))
 
 coefficient-of-requires : tie.Need-coefficient-of-requires
 coefficient-of-requires c κs =
     let pre = c .before .before .before .before .before .before .before .before .before .before .before .before .before .pre in
-    (pre .0, (pre .1 .0, pre .1 .1 .0))
+    (pre .0 .data-most, (pre .1 .1 .0, pre .1 .1 .1 .0))
 
 inv-requires : tie.Need-inv-requires
 inv-requires c κs = search needs
@@ -48,7 +48,7 @@ returns : tie.Need-returns
 returns c =
     let a = c .before .before .before .before .before .before .before .before .before .before .before .before .before .before .before .before .before .before .before .args in
     let pre = c .before .before .before .before .before .before .before .before .before .before .before .before .before .before .before .before .before .before .before .pre in
-    from-q (a .ns .now) (a .b) (a .array .now ++ a .log .now) _ _ _ (a .d) (a .x) (a .y) _ (pre .1 .1 .1 .0) (pre .1 .1 .0)
+    from-q (a .ns .now) (a .b) (a .array .now ++ a .log .now) _ _ _ (a .d) (a .x) (a .y) _ (pre .1 .1 .1 .1) (pre .1 .1 .1 .0)
     (c .before .before .before .before .inv .ensures ∙ ap inverse (c .before .before .before .before .before .coefficient-of .ensures))
     (c .before .before .before .before .before .before .before .before .before .before .before .before .before .add-weighted .ensures)
     (c .before .before .before .before .before .before .before .before .add-block .ensures) (c .before .before .scale-row .ensures)

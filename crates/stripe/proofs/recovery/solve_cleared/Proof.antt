@@ -13,7 +13,7 @@ comes-from-p-requires c κs = search needs
 add-rest-requires : tie.Need-add-rest-requires
 add-rest-requires c κs =
     let pre = c .before .before .before .before .before .before .before .pre in
-    (pre .0, (pre .1 .1 .1 .0, pre .1 .1 .1 .1 .1))
+    pre .0
 
 same-length : tie.Need-same-length
 same-length c = search needs
@@ -21,14 +21,14 @@ same-length c = search needs
 returns : tie.Need-returns
 returns c =
     let a = c .before .before .before .before .before .before .before .before .before .before .args in
-    from-p (a .ns .now) (a .b) (a .array .now ++ a .log .now) (a .work .now) _ (a .d) (a .x) (a .y) (from-p-when (a .d) (a .x) (a .y) (sym (c .before .before .before .before .before .comes-from-p .ensures) ∙ c .before .before .before .before .if1 .taken)) (c .before .before .before .before .before .before .before .before .before .before .pre .1 .1 .1 .1 .0) (c .before .before .add-rest .ensures)
+    from-p (a .ns .now) (a .b) (a .array .now ++ a .log .now) (a .work .now) _ (a .d) (a .x) (a .y) (from-p-when (a .d) (a .x) (a .y) (sym (c .before .before .before .before .before .comes-from-p .ensures) ∙ c .before .before .before .before .if1 .taken)) (c .before .before .before .before .before .before .before .before .before .before .pre .1 .0) (c .before .before .add-rest .ensures)
 
 solve-by-q-requires : tie.Need-solve-by-q-requires
 solve-by-q-requires c κs =
     let a = c .before .before .before .before .before .before .before .args in
     let pre = c .before .before .before .before .before .before .before .pre in
     let way = from-q-when (a .d) (a .x) (a .y) (sym (c .before .before .comes-from-p .ensures) ∙ c .before .if1 .left) in
-    (pre .0, (pre .1 .0, (way .1, (way .0, pre .1 .1 .1))))
+    (pre .0, (pre .1 .0, (pre .1 .1 .0, (way .1, way .0))))
 
 same-length-2 : tie.Need-same-length-2
 same-length-2 c = search needs

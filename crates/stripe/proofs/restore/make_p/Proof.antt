@@ -5,7 +5,7 @@ use Prim.Native.Nat.{_+_}
 use native.Mathlib.Omega.{arith}
 use lib.ListN.{length}
 use borrow.Author.Needs.{needs}
-use Rattle.stripe.proofs.RestoreLaws.{stripe-long, held, p-put}
+use Rattle.stripe.proofs.RestoreLaws.{stripe-long, gathers, p-put}
 use Rattle.stripe.proofs.BlockLaws.{fits}
 use Rattle.stripe.proofs.restore.make_p.Statement.{statement}
 use Rattle.stripe.proofs.restore.make_p.Tie as tie
@@ -23,13 +23,8 @@ add-data-requires : tie.Need-add-data-requires
 add-data-requires c κs =
     let start = c .before .before .before .before .before .before .before .before .before .before in
     let a = start .args in
-    let ok = start .pre in (
-      ok .measures .data-most,
-      (
-        c .before .before .before .before .work .given ∙ ok .working,
-        (stripe-long (a .d) (a .b) (a .stripe .now) (a .work .now) (a .ns .now) ok, held (a .d) (a .b) (a .stripe .now) (a .work .now) (a .ns .now) ok),
-      ),
-    )
+    let ok = start .pre in
+    gathers (a .d) (a .b) (a .stripe .now) (a .work .now) (a .ns .now) ok _ (c .before .before .before .before .work .given ∙ ok .working)
 
 copy-block-requires : tie.Need-copy-block-requires
 copy-block-requires c κs =

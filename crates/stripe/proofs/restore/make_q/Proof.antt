@@ -5,7 +5,7 @@ use Prim.Native.Nat.{_+_}
 use native.Mathlib.Omega.{arith}
 use lib.ListN.{length}
 use borrow.Author.Needs.{needs}
-use Rattle.stripe.proofs.RestoreLaws.{stripe-long, held, q-put}
+use Rattle.stripe.proofs.RestoreLaws.{stripe-long, gathers, q-put}
 use Rattle.stripe.proofs.BlockLaws.{fits}
 use Rattle.stripe.proofs.restore.make_q.Statement.{statement}
 use Rattle.stripe.proofs.restore.make_q.Tie as tie
@@ -23,16 +23,8 @@ add-weighted-requires : tie.Need-add-weighted-requires
 add-weighted-requires c κs =
     let start = c .before .before .before .before .before .before .before .before .before .before in
     let a = start .args in
-    let ok = start .pre in (
-      ok .measures .data-most,
-      (
-        c .before .before .before .before .work .given ∙ ok .working,
-        (
-          c .before .before .before .before .before .clear-row .ensures,
-          (stripe-long (a .d) (a .b) (a .stripe .now) (a .work .now) (a .ns .now) ok, held (a .d) (a .b) (a .stripe .now) (a .work .now) (a .ns .now) ok),
-        ),
-      ),
-    )
+    let ok = start .pre in
+    (gathers (a .d) (a .b) (a .stripe .now) (a .work .now) (a .ns .now) ok _ (c .before .before .before .before .work .given ∙ ok .working), c .before .before .before .before .before .clear-row .ensures)
 
 add-copy-block : tie.Need-add-copy-block
 add-copy-block c = search needs

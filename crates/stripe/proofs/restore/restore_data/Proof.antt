@@ -5,7 +5,7 @@ use Prim.Native.Nat.{_+_, _<_}
 use native.Mathlib.Omega.{arith}
 use lib.ListN.{length}
 use borrow.Author.Needs.{needs}
-use Rattle.stripe.proofs.RestoreLaws.{stripe-long, held, data-put}
+use Rattle.stripe.proofs.RestoreLaws.{stripe-long, gathers, data-put}
 use Rattle.stripe.proofs.BlockLaws.{fits}
 use Rattle.stripe.proofs.restore.restore_data.Statement.{statement}
 use Rattle.stripe.proofs.restore.restore_data.Tie as tie
@@ -20,19 +20,8 @@ solve-requires : tie.Need-solve-requires
 solve-requires c κs =
     let start = c .before .before .before .before .before .before in
     let a = start .args in
-    let ok = start .pre .0 in (
-      ok .measures .data-most,
-      (
-        start .pre .1 .0,
-        (
-          start .pre .1 .1,
-          (
-            ok .working,
-            (stripe-long (a .d) (a .b) (a .stripe .now) (a .work .now) (a .ns .now) ok, held (a .d) (a .b) (a .stripe .now) (a .work .now) (a .ns .now) ok),
-          ),
-        ),
-      ),
-    )
+    let ok = start .pre .0 in
+    (gathers (a .d) (a .b) (a .stripe .now) (a .work .now) (a .ns .now) ok _ (ok .working), start .pre .1)
 
 copy-block-requires : tie.Need-copy-block-requires
 copy-block-requires c κs =
