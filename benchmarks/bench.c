@@ -88,7 +88,7 @@ static void turn_to(const struct job *job)
 #endif
 }
 
-/* The measures of the job on line n, the members to work back, and its own bytes. */
+/* The measures of the job on line n, the members to recover, and its own bytes. */
 static struct job job_of_line(unsigned n, uint8_t *copy)
 {
     struct job job = {.work = (enum work)(n / MEASURES), .copy = copy};
@@ -217,7 +217,8 @@ static unsigned time_rounds(void)
 int main(void)
 {
     uint8_t *copy = pages(ARRAY_BYTES);
-    rows_init();
+    plain_rows.init();
+    mask_rows.init();
     for (unsigned n = 0; n < LINES; n++) {
         lines[n].job = job_of_line(n, copy);
         fill(&lines[n]);

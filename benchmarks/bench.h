@@ -10,14 +10,14 @@
 #define SEED 285u
 #define ARRAY_BYTES ((size_t)16 << 20) /* the most that an array takes, P and Q counted */
 
-enum { MOST_DATA = 16, MOST_VARIANTS = 5, MOST_ROUNDS = 200 };
+enum { MOST_DATA = 16, MOST_VARIANTS = 6, MOST_ROUNDS = 200 };
 
 enum work { PARITY, ONE_BLOCK, TWO_BLOCKS, ALL_STRIPES, WORKS };
 
 struct job {
     enum work work;
     uint32_t d, b, s; /* data blocks in a stripe, bytes in a block, stripes */
-    uint32_t x, y;    /* the members to work back; the same one twice counts once */
+    uint32_t x, y;    /* the members to recover; the same one twice counts once */
     size_t len;       /* (d + 2) * s * b */
     uint8_t *bytes;   /* a stripe (data, P, Q), or an array kept by member */
     uint8_t *copy;    /* where memcpy puts the data */
@@ -50,12 +50,15 @@ void fail(const struct job *job, const char *who, const char *what);
 void print_terms(unsigned rounds);
 void print_table(const struct line *lines, unsigned count, unsigned rounds);
 
-/* The C rows (rows.c): blocks of b bytes, each stride bytes after the one before it. rows_init
-   comes before the others. */
-void rows_init(void);
-void rows_parity(uint32_t d, size_t b, size_t stride, uint8_t *first);
-void rows_recover_one(uint32_t d, size_t b, uint32_t x, uint8_t *stripe);
-void rows_recover_two(uint32_t d, size_t b, uint32_t x, uint32_t y, uint8_t *stripe);
+/* The C rows (rows.c): blocks of b bytes, each stride bytes after the one before it. init comes
+   before the others. They are there twice, with the doubling written in two ways. */
+struct rows {
+    void (*init)(void);
+    void (*parity)(uint32_t d, size_t b, size_t stride, uint8_t *first);
+    void (*recover_one)(uint32_t d, size_t b, uint32_t x, uint8_t *stripe);
+    void (*recover_two)(uint32_t d, size_t b, uint32_t x, uint32_t y, uint8_t *stripe);
+};
+extern const struct rows plain_rows, mask_rows;
 
 /* ISA-L (isal.c), linked only where it is installed. isal_prepare comes before a job's calls. */
 const char *isal_version(void);

@@ -7,8 +7,8 @@
 
 static const char *const titles[WORKS] = {
     "parity of a stripe",
-    "one data block worked back",
-    "two data blocks worked back",
+    "one data block recovered",
+    "two data blocks recovered",
     "parity of a 16 MB array",
 };
 
@@ -80,8 +80,8 @@ void print_terms(unsigned rounds)
 #else
     printf("no ISA-L, which is not installed; ");
 #endif
-    printf("rows in plain C (gcc %s -O3); memcpy of the data blocks (it"
-           " stores d blocks where parity stores two).\n", __VERSION__);
+    printf("rows in plain C (gcc %s -O3), with the doubling as this library writes it and by shift and"
+           " mask; memcpy of the data blocks (it stores d blocks where parity stores two).\n", __VERSION__);
     printf("- Seed %u. Before the timing every result was compared byte for byte with that of %s.\n", SEED,
            strncmp(variants[1].name, "ISA-L", 5) == 0 ? "ISA-L" : variants[1].name);
     printf("- GB/s: 10^9 bytes of data blocks (d x B a stripe, in recovery too) in a second, median of %u"

@@ -1,19 +1,25 @@
 /* The peer in plain C: parity and recovery row by row, a whole block at a time.
-   It is compiled apart, by gcc -O3, and leaves all vector code to the compiler. */
+   It is compiled apart, by gcc -O3, and leaves all vector code to the compiler. It is compiled
+   twice, ROWS the name of its calls: the doubling as this library writes it and, with BY_MASK, by
+   shift and mask, which gcc 12 turns into vector code with less work. */
 #include "bench.h"
 
 #include <string.h>
 
-/* 2 * v in the field of polynomial 11D, by shift and mask. */
+/* 2 * v in the field of polynomial 11D. */
 static inline uint8_t twice(uint8_t v)
 {
+#ifdef BY_MASK
     return (uint8_t)((v << 1) ^ (0x1D & -(v >> 7)));
+#else
+    return (uint8_t)((v % 128 * 2) ^ (v / 128 * 29));
+#endif
 }
 
 static uint8_t powers[255], logarithms[256];
 
 /* Fills the tables of the powers of 2 and of their logarithms, once. */
-void rows_init(void)
+static void init(void)
 {
     uint8_t v = 1;
     for (unsigned n = 0; n < 255; n++, v = twice(v)) {
@@ -55,7 +61,7 @@ static void double_row(size_t b, uint8_t *q)
 }
 
 /* P and Q of one stripe, from the last data block to the first. */
-void rows_parity(uint32_t d, size_t b, size_t stride, uint8_t *first)
+static void parity(uint32_t d, size_t b, size_t stride, uint8_t *first)
 {
     uint8_t *p = first + d * stride, *q = p + stride;
     memcpy(p, first + (d - 1) * stride, b);
@@ -65,7 +71,7 @@ void rows_parity(uint32_t d, size_t b, size_t stride, uint8_t *first)
 }
 
 /* Data block x from P and the other data blocks. */
-void rows_recover_one(uint32_t d, size_t b, uint32_t x, uint8_t *stripe)
+static void recover_one(uint32_t d, size_t b, uint32_t x, uint8_t *stripe)
 {
     uint8_t *to = stripe + x * b;
     memcpy(to, stripe + d * b, b);
@@ -91,7 +97,7 @@ static void solve_rows(size_t b, uint8_t a, uint8_t c, uint8_t *restrict rx, uin
 
 /* Data blocks x and y, x below y, from P, Q and the others; the product tables are filled in each
    call, since a call is told only the members. */
-void rows_recover_two(uint32_t d, size_t b, uint32_t x, uint32_t y, uint8_t *stripe)
+static void recover_two(uint32_t d, size_t b, uint32_t x, uint32_t y, uint8_t *stripe)
 {
     uint8_t *rx = stripe + x * b, *ry = stripe + y * b, *p = stripe + d * b;
     memset(rx, 0, b);
@@ -106,3 +112,5 @@ void rows_recover_two(uint32_t d, size_t b, uint32_t x, uint32_t y, uint8_t *str
     unsigned under = logarithms[powers[y - x] ^ 1];
     solve_rows(b, powers[(y - x + 255 - under) % 255], powers[(510 - x - under) % 255], rx, ry, p, p + b);
 }
+
+const struct rows ROWS = {init, parity, recover_one, recover_two};

@@ -31,31 +31,30 @@ static void ours_all(const struct job *job)
         fail(job, ours, "parity of all stripes was refused");
 }
 
-/* Parity of one stripe by the C rows. */
-static void plain_parity(const struct job *job)
-{
-    rows_parity(job->d, job->b, job->b, job->bytes);
-}
+/* The calls of a set of C rows: parity of one stripe, recovery of one data block and of two, and
+   parity of all stripes. */
+#define CALLS_OF(set)                                                                              \
+    static void set##_parity(const struct job *job)                                                \
+    {                                                                                              \
+        set##_rows.parity(job->d, job->b, job->b, job->bytes);                                     \
+    }                                                                                              \
+    static void set##_one(const struct job *job)                                                   \
+    {                                                                                              \
+        set##_rows.recover_one(job->d, job->b, job->x, job->bytes);                                \
+    }                                                                                              \
+    static void set##_two(const struct job *job)                                                   \
+    {                                                                                              \
+        set##_rows.recover_two(job->d, job->b, job->x, job->y, job->bytes);                        \
+    }                                                                                              \
+    static void set##_all(const struct job *job)                                                   \
+    {                                                                                              \
+        size_t b = job->b, member = job->s * b;                                                    \
+        for (uint32_t t = 0; t < job->s; t++)                                                      \
+            set##_rows.parity(job->d, b, member, job->bytes + t * b);                              \
+    }
 
-/* Recovery of one data block by the C rows. */
-static void plain_one(const struct job *job)
-{
-    rows_recover_one(job->d, job->b, job->x, job->bytes);
-}
-
-/* Recovery of two data blocks by the C rows. */
-static void plain_two(const struct job *job)
-{
-    rows_recover_two(job->d, job->b, job->x, job->y, job->bytes);
-}
-
-/* Parity of all stripes by the C rows. */
-static void plain_all(const struct job *job)
-{
-    size_t b = job->b, member = job->s * b;
-    for (uint32_t t = 0; t < job->s; t++)
-        rows_parity(job->d, b, member, job->bytes + t * b);
-}
+CALLS_OF(plain)
+CALLS_OF(mask)
 
 /* The limit: a copy of the data blocks. */
 static void copy_data(const struct job *job)
@@ -70,6 +69,7 @@ const struct variant variants[] = {
     {"ISA-L ec_encode_data", true, {isal_encode, isal_encode, isal_encode, NULL}},
 #endif
     {"C rows", false, {plain_parity, plain_one, plain_two, plain_all}},
+    {"C rows by mask", false, {mask_parity, mask_one, mask_two, mask_all}},
     {"memcpy", false, {copy_data, copy_data, copy_data, copy_data}},
 };
 const unsigned variant_count = sizeof variants / sizeof variants[0];

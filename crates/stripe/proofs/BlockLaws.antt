@@ -7,7 +7,7 @@ use Prim.Native.Nat.{ℕ, zero, suc, _+_, _*_, _-_, _/_, _%_, _≤_, _<_}
 use native.Mathlib.Nat.{mul-le-mul-right, div-add-mod', div-lt-iff-lt-mul, mod-lt, zero-mul, not-suc-le-zero, le-of-suc-le-suc, eq-or-lt-of-le}
 use native.Mathlib.Omega.{arith}
 use lib.ListN.{length, getD, take, drop, length-append, length-drop, take-append-drop, List·getD-append}
-use lib.Seq.{length-take-le, getD-take, getD-drop, ext-getD, getD-append-add, take-add}
+use lib.Seq.{length-take-le, getD-take, getD-drop, ext-getD, getD-append-add, take-add, take-all}
 use Rattle.stripe.specs.Blocks.{gen, block, byteOf, put, blocksOf}
 use Rattle.stripe.proofs.Lists.{apart, length-gen, getD-gen}
 
@@ -138,3 +138,18 @@ byteOf-blocksOf (suc n) b f i j h p =
     ∙ getD-append-add (blocksOf n b f) (gen b (f n)) j 0 ∙ getD-gen b (f n) j p ∙ ap (λ (k : ℕ). f k j) (sym e))
     (λ q. List·getD-append (blocksOf n b f) (gen b (f n)) 0 (i * b + j) (omega (arith, mul-le-mul-right b q)) ∙ byteOf-blocksOf n b f i j q p)
     (eq-or-lt-of-le (le-of-suc-le-suc h))
+
+-- ---- a buffer of one block
+
+pub block-whole : (b : ℕ) (w : List ℕ) → length w ≡ b → block b 0 w ≡ w
+unfolding block
+block-whole b w e = ap (λ (n : ℕ). take b (drop n w)) (zero-mul b) ∙ take-all b w (omega arith)
+
+pub put-whole : (b : ℕ) (x w : List ℕ) → length w ≡ b → length x ≡ b → put b 0 x w ≡ x
+put-whole b x w ew ex =
+    let room : 0 * b + b ≤ length w = omega (arith, zero-mul b) in
+    ext-getD 0 (put b 0 x w) x (length-put b 0 w room x ex ∙ ew ∙ sym ex)
+    (λ j h. let q : j < b = omega (arith, length-put b 0 w room x ex) in ap (λ (k : ℕ). getD (put b 0 x w) k 0) (first j) ∙ getD-put-in b 0 w room x ex j q)
+  where
+    first : (j : ℕ) → j ≡ 0 * b + j
+    first j = omega (arith, zero-mul b)

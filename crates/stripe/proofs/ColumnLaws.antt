@@ -1,4 +1,4 @@
--- One column: up to two missing roles of a column that obeys Anvin's equations are worked back exactly, and what the code's ways of summing give.
+-- One column: up to two missing roles of a column that obeys Anvin's equations are recovered exactly, and what the code's ways of summing give.
 -- Assumes nothing.
 use mathlib.Core.Bool.{Bool, true, false}
 use mathlib.Core.Logic.{_⊎_, ⊎-elim, _≢_}
@@ -8,11 +8,11 @@ use native.Mathlib.Omega.{arith}
 use lib.Bits.{bitXor}
 use lib.Dec.{eqb, ltb}
 use Rattle.field.specs.Field.{times, inverse}
-use Rattle.field.proofs.Laws.{xor-assoc, xor-comm, xor-self, xor-zero-r, xor-swap, xor-left-comm, xor-byte, times-byte, times-xor-l, times-xor-r, one-times, inverse-byte, times-cancel, pow2-positive, pow2-differ, times-zero-r}
+use Rattle.field.proofs.Laws.{xor-assoc, xor-comm, xor-self, xor-zero-r, xor-swap, xor-byte, times-byte, times-xor-l, times-xor-r, one-times, inverse-byte, times-cancel, pow2-positive, pow2-differ, times-zero-r}
 use Rattle.stripe.specs.Parity.{pick, sum, one, weight, parityP, parityQ, made, Obeys, without, restP, restQ, fromP, fromQ, fromBoth, solved, dataSolved, recovered}
 use Rattle.stripe.specs.Steps.{standIn}
 use Rattle.stripe.proofs.Lists.{less-or-not, apart}
-use Rattle.stripe.proofs.Sums.{same-or-not, pick-same, pick-other, pick-less, pick-not-less, without-first, without-second, without-other, without-ext, without-swap, sum-ext, sum-byte, one-byte, weight-byte, sum-role, sum-without-one, sum-without-next, sum-without-two}
+use Rattle.stripe.proofs.Sums.{same-or-not, pick-same, pick-other, pick-less, pick-not-less, without-first, without-second, without-other, without-ext, without-swap, sum-ext, sum-byte, one-byte, weight-byte, sum-role, sum-without-one, sum-without-two}
 
 -- ---- a made column
 
@@ -178,7 +178,7 @@ module _ (a c : ℕ) (ha : a < 256) (hc : c < 256) (pos : 0 < bitXor a c) where
           xor-swap q (times c p) (times a p) (times c p)
           ∙ ap (bitXor (bitXor q (times a p))) (xor-self (times c p)) ∙ xor-zero-r (bitXor q (times a p))
 
--- ---- data x worked back, by what else is missing
+-- ---- data x recovered, by what else is missing
 
 module _ (d x y : ℕ) (D : ℕ → ℕ) where
   pub solved-same : x ≡ y → solved d x y D ≡ fromP d x D
@@ -338,23 +338,11 @@ recovered-swap d x y D i =
 
 -- ---- the ways of the code, for any column
 
--- P's rest without x and y is P's rest without y, once x is there
-pub restP-next : (d x y : ℕ) (D : ℕ → ℕ) → x < d → x ≢ y → D x < 256 → restP d y y D ≡ bitXor (D x) (restP d x y D)
-unfolding restP parityP
-restP-next d x y D hx ne h =
-    ap (bitXor (D d)) (sum-without-next one D d y x hx (λ e. ne (sym e))
-    ∙ ap₂ bitXor (times-one x (D x) h) (sum-ext one (without y x D) (without x y D) d (λ i _. without-swap y x D i)))
-    ∙ xor-left-comm (D d) (D x) (sum one (without x y D) d)
-
--- after x is worked back from both, y comes from P alone
-pub second-from-P : (d x y : ℕ) (D E : ℕ → ℕ) → d ≤ 16 → x < d → y < d → x ≢ y → D d < 256
-    → ((i : ℕ) → i < d + 2 → i ≢ x → i ≢ y → E i ≡ D i) → E x ≡ solved d x y D → solved d y y E ≡ solved d y x D
-unfolding fromP fromBoth
-second-from-P d x y D E hd hx hy ne hp same ex =
-    let byte : E x < 256 = subst (λ (k : ℕ). k < 256) (sym ex) (solved-byte d x y D hp) in
-    solved-same d y y E refl ∙ restP-next d x y E hx ne byte
-    ∙ ap₂ bitXor (ex ∙ solved-both d x y D ne hy)
-    (restP-ext d x y E D (λ i h. same i (omega arith)) (same d (omega arith) (λ q. omega arith) (λ q. omega arith)))
+-- after x is recovered from both, y is what is left of their sum
+pub second-of-two : (d x y : ℕ) (D : ℕ → ℕ) → d ≤ 16 → x < d → y < d → x ≢ y → D d < 256 → bitXor (solved d x y D) (restP d x y D) ≡ solved d y x D
+unfolding fromBoth
+second-of-two d x y D hd hx hy ne hp =
+    ap (λ (k : ℕ). bitXor k (restP d x y D)) (solved-both d x y D ne hy)
     ∙ second-exact (weight x) (weight y) (weight-byte x) (weight-byte y) (weight-differ x y (omega arith) (omega arith) ne)
     (restP d x y D) (restQ d x y D) (restP-byte d x y D hp)
     ∙ ap₂ (λ (s q : ℕ). times (inverse s) (bitXor q (times (weight x) (restP d x y D)))) (xor-comm (weight x) (weight y)) (restQ-swap d x y D)

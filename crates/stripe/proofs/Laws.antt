@@ -6,7 +6,7 @@ pub use Rattle.stripe.proofs.CallTheorems.{make-accepted, recover-accep
 -- The same of the stripe that a call leaves, by columns; every block that is not made or named stays.
 pub use Rattle.stripe.proofs.StripeTheorems.{length-changed, byte-changed, made-kept, recovered-kept, made-sound, recovered-exactly}
 -- Stripes in an array and a log: parity made obeys the equations and stores nothing else, in one stripe and in all; a block number from n on is a
--- log record's; a block worked back is the one that was lost.
+-- log record's; a block recovered is the one that was lost.
 pub use Rattle.stripe.proofs.ArrayTheorems.{made-length, made-others, made-in-p, made-in-q, made-array-obeys, all-length, all-others, all-data, all-obey, array-byte, log-byte, solved-block}
 -- The layout maps roles to members one to one, and each role of each stripe has a block of its own.
 pub use Rattle.stripe.proofs.PlaceLaws.{member-lt, member-inj, place-lt, place-inj, place-other}

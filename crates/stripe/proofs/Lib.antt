@@ -11,6 +11,6 @@ pub mod Sums
 pub mod ColumnLaws
 pub mod PlaceLaws
 pub mod ParityLaws
-pub mod GatherLaws
+pub mod SolveLaws
 pub mod CallLaws
-pub mod RestoreLaws
+pub mod RecoverLaws

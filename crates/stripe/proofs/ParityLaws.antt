@@ -2,7 +2,7 @@
 -- Assumes nothing.
 use mathlib.Core.List.{List}
 use mathlib.Core.Logic.{_⊎_, inl, inr, ⊎-elim, _≢_}
-use mathlib.Core.Path.{_≡_, refl, sym, ap, ap₂, _∙_}
+use mathlib.Core.Path.{_≡_, sym, ap, ap₂, _∙_, subst}
 use Prim.Native.Nat.{ℕ, suc, _+_, _*_, _-_, _/_, _%_, _≤_, _<_}
 use native.Mathlib.Decide.{ℕ-discrete}
 use native.Mathlib.Nat.{mul-le-mul-right, div-add-mod', mod-lt}
@@ -15,12 +15,11 @@ use Rattle.field.specs.Field.{double}
 use Rattle.field.proofs.Laws.{xor-zero-l, double-zero}
 use Rattle.stripe.specs.Blocks.{byteOf}
 use Rattle.stripe.specs.Parity.{parityP, parityQ}
-use Rattle.stripe.specs.Places.{numbered, columnAt, byColumn, parityMade, parityMadeAll, Placed}
-use Rattle.stripe.specs.Steps.{Starts, later, taken, plus, twicePlus, Outside, Apart, PutRows, Partly}
+use Rattle.stripe.specs.Places.{numbered, firstByte, columnAt, byColumn, parityMade, parityMadeAll, Tabled, Held, Placed}
+use Rattle.stripe.specs.Steps.{Starts, later, taken, plus, twicePlus, Outside, Apart, PutRow, Spans, Disjoint, columnFrom, byStart, Partly}
 use Rattle.stripe.proofs.Lists.{less-or-not, apart}
 use Rattle.stripe.proofs.Sums.{plain, horner, plain-sum, horner-sum}
 use Rattle.stripe.proofs.ColumnLaws.{parityP-ext, parityQ-ext}
-use Rattle.stripe.proofs.PlaceLaws.{placed-same}
 use Rattle.stripe.proofs.ArrayTheorems.{made-length, made-others, made-in-p, made-in-q}
 
 -- ---- the sums over the data from role i on
@@ -55,145 +54,198 @@ horner-all : (d i : ℕ) (D : ℕ → ℕ) → i ≡ 0 → ((k : ℕ) → k < d 
 unfolding hornerFrom parityQ
 horner-all d i D e bytes = let all : d - i ≡ d = omega arith in ap₂ (horner D) e all ∙ horner-sum D d bytes
 
-module _ (ns : List ℕ) (b o w : ℕ) (a : List ℕ) where
-  -- byte j of a row of block ns i, from column o on
-  cell : (i j : ℕ) → getD a (getD ns i 0 * b + o + j) 0 ≡ columnAt (numbered ns) b a (o + j) i
-  unfolding columnAt byteOf numbered
-  cell i j = let e : getD ns i 0 * b + o + j ≡ getD ns i 0 * b + (o + j) = omega arith in ap (λ (n : ℕ). getD a n 0) e
+module _ (at : List ℕ) (o w : ℕ) (a : List ℕ) where
+  -- byte j of a row of role i's block, from column o on
+  cell : (i j : ℕ) → getD a (getD at i 0 + o + j) 0 ≡ columnFrom at a (o + j) i
+  unfolding columnFrom
+  cell i j = let e : getD at i 0 + o + j ≡ getD at i 0 + (o + j) = omega arith in ap (λ (n : ℕ). getD a n 0) e
 
-  pub p-first : (d i : ℕ) (p : List ℕ) → d ≡ suc i → Starts w p (taken (getD ns i 0 * b + o) a) → Starts w p (later (byColumn (plainFrom d i) (numbered ns) b a) o)
-  unfolding taken later byColumn
-  p-first d i p e h j l = h j l ∙ cell i j ∙ sym (plain-one d i (columnAt (numbered ns) b a (o + j)) e)
+  pub p-first : (d i : ℕ) (p : List ℕ) → d ≡ suc i → Starts w p (taken (getD at i 0 + o) a) → Starts w p (later (byStart (plainFrom d i) at a) o)
+  unfolding taken later byStart
+  p-first d i p e h j l = h j l ∙ cell i j ∙ sym (plain-one d i (columnFrom at a (o + j)) e)
 
-  pub q-first : (d i : ℕ) (q : List ℕ) → d ≡ suc i → Starts w q (taken (getD ns i 0 * b + o) a) → Starts w q (later (byColumn (hornerFrom d i) (numbered ns) b a) o)
-  unfolding taken later byColumn
-  q-first d i q e h j l = h j l ∙ cell i j ∙ sym (horner-one d i (columnAt (numbered ns) b a (o + j)) e)
+  pub q-first : (d i : ℕ) (q : List ℕ) → d ≡ suc i → Starts w q (taken (getD at i 0 + o) a) → Starts w q (later (byStart (hornerFrom d i) at a) o)
+  unfolding taken later byStart
+  q-first d i q e h j l = h j l ∙ cell i j ∙ sym (horner-one d i (columnFrom at a (o + j)) e)
 
-  pub p-next : (d i k : ℕ) (p n : List ℕ) → i ≡ suc k → i ≤ d → Starts w p (later (byColumn (plainFrom d i) (numbered ns) b a) o)
-      → Starts w n (plus (taken (getD ns k 0 * b + o) a) p) → Starts w n (later (byColumn (plainFrom d k) (numbered ns) b a) o)
-  unfolding taken later byColumn plus
-  p-next d i k p n e h hp hn j l = hn j l ∙ ap₂ bitXor (hp j l) (cell k j) ∙ plain-more d i k (columnAt (numbered ns) b a (o + j)) e h
+  pub p-next : (d i k : ℕ) (p n : List ℕ) → i ≡ suc k → i ≤ d → Starts w p (later (byStart (plainFrom d i) at a) o)
+      → Starts w n (plus (taken (getD at k 0 + o) a) p) → Starts w n (later (byStart (plainFrom d k) at a) o)
+  unfolding taken later byStart plus
+  p-next d i k p n e h hp hn j l = hn j l ∙ ap₂ bitXor (hp j l) (cell k j) ∙ plain-more d i k (columnFrom at a (o + j)) e h
 
-  pub q-next : (d i k : ℕ) (q n : List ℕ) → i ≡ suc k → i ≤ d → Starts w q (later (byColumn (hornerFrom d i) (numbered ns) b a) o)
-      → Starts w n (twicePlus (taken (getD ns k 0 * b + o) a) q) → Starts w n (later (byColumn (hornerFrom d k) (numbered ns) b a) o)
-  unfolding taken later byColumn twicePlus
-  q-next d i k q n e h hq hn j l = hn j l ∙ ap₂ (λ (x y : ℕ). bitXor (double x) y) (hq j l) (cell k j) ∙ horner-more d i k (columnAt (numbered ns) b a (o + j)) e h
+  pub q-next : (d i k : ℕ) (q n : List ℕ) → i ≡ suc k → i ≤ d → Starts w q (later (byStart (hornerFrom d i) at a) o)
+      → Starts w n (twicePlus (taken (getD at k 0 + o) a) q) → Starts w n (later (byStart (hornerFrom d k) at a) o)
+  unfolding taken later byStart twicePlus
+  q-next d i k q n e h hq hn j l = hn j l ∙ ap₂ (λ (x y : ℕ). bitXor (double x) y) (hq j l) (cell k j) ∙ horner-more d i k (columnFrom at a (o + j)) e h
 
-  pub p-last : (d i : ℕ) (p : List ℕ) → i ≡ 0 → ((k : ℕ) → getD a k 0 < 256) → Starts w p (later (byColumn (plainFrom d i) (numbered ns) b a) o)
-      → Starts w p (later (byColumn (parityP d) (numbered ns) b a) o)
-  unfolding later byColumn columnAt byteOf
-  p-last d i p e bytes hp j l = hp j l ∙ plain-all d i (columnAt (numbered ns) b a (o + j)) e (λ k u. bytes (numbered ns k * b + (o + j)))
+  pub p-last : (d i : ℕ) (p : List ℕ) → i ≡ 0 → ((k : ℕ) → getD a k 0 < 256) → Starts w p (later (byStart (plainFrom d i) at a) o)
+      → Starts w p (later (byStart (parityP d) at a) o)
+  unfolding later byStart columnFrom
+  p-last d i p e bytes hp j l = hp j l ∙ plain-all d i (columnFrom at a (o + j)) e (λ k u. bytes (getD at k 0 + (o + j)))
 
-  pub q-last : (d i : ℕ) (q : List ℕ) → i ≡ 0 → ((k : ℕ) → getD a k 0 < 256) → Starts w q (later (byColumn (hornerFrom d i) (numbered ns) b a) o)
-      → Starts w q (later (byColumn (parityQ d) (numbered ns) b a) o)
-  unfolding later byColumn columnAt byteOf
-  q-last d i q e bytes hq j l = hq j l ∙ horner-all d i (columnAt (numbered ns) b a (o + j)) e (λ k u. bytes (numbered ns k * b + (o + j)))
+  pub q-last : (d i : ℕ) (q : List ℕ) → i ≡ 0 → ((k : ℕ) → getD a k 0 < 256) → Starts w q (later (byStart (hornerFrom d i) at a) o)
+      → Starts w q (later (byStart (parityQ d) at a) o)
+  unfolding later byStart columnFrom
+  q-last d i q e bytes hq j l = hq j l ∙ horner-all d i (columnFrom at a (o + j)) e (λ k u. bytes (getD at k 0 + (o + j)))
+
+-- ---- runs of bytes
+
+-- fewer and shorter runs lie within the buffer too, and within another of its length
+pub spans-less : {n k size m l size′ : ℕ} {at : List ℕ} → m ≤ n → l ≤ k → size ≡ size′ → Spans n k size at → Spans m l size′ at
+spans-less hm hl e s =
+    record { long = let long = s .long in omega arith; within = λ i h. let in-size = s .within i (omega arith) in omega arith }
+
+-- a byte of one of two runs of b bytes is outside of the other
+clear : (x y b j : ℕ) → Apart x y b → j < b → Outside (x + j) y b
+clear x y b j h l = ⊎-elim (λ p. inl (omega arith)) (λ p. inr (omega arith)) h
+
+-- what is outside of a block is outside of its columns o to o + w - 1
+narrow : (i y b o w : ℕ) → o + w ≤ b → Outside i y b → Outside i (y + o) w
+narrow i y b o w ho h = ⊎-elim (λ p. inl (omega arith)) (λ p. inr (omega arith)) h
 
 -- ---- a chunk more of P and Q
 
--- a byte of another block is outside of the columns o to o + w - 1 of block m
-away : (b o w n m j : ℕ) → n ≢ m → j < b → o + w ≤ b → Outside (n * b + j) (m * b + o) w
-away b o w n m j ne hj ho = ⊎-elim (λ p. inl (omega (arith, mul-le-mul-right b p))) (λ p. inr (omega (arith, mul-le-mul-right b p))) (apart n m ne)
+-- the bytes from t on are f's up to o, and with a row stored there up to o + w
+row-more : (t o w : ℕ) (f : ℕ → ℕ) (x a n : List ℕ) → PutRow (t + o) w x a n → ((j : ℕ) → j < o → getD a (t + j) 0 ≡ f j) → Starts w x (later f o)
+    → (j : ℕ) → j < o + w → getD n (t + j) 0 ≡ f j
+row-more t o w f x a n hn old new j l =
+    ⊎-elim (λ p. hn .others (t + j) (inl (omega arith)) ∙ old j p) (λ p. stored (j - o) (omega arith) (omega arith)) (less-or-not j o)
+  where
+    stored : (k : ℕ) → j ≡ o + k → k < w → getD n (t + j) 0 ≡ f j
+    stored k e lw =
+        let spot : t + j ≡ t + o + k = omega arith in
+        let column : later f o k ≡ f j = unfold later in ap f (sym e) in
+        ap (λ (i : ℕ). getD n i 0) spot ∙ hn .inside k lw ∙ new k lw ∙ column
 
--- the columns of two blocks share no byte
-pub columns-apart : (b o w n m : ℕ) → n ≢ m → o + w ≤ b → Apart (n * b + o) (m * b + o) w
-columns-apart b o w n m ne ho = ⊎-elim (λ p. inl (omega (arith, mul-le-mul-right b p))) (λ p. inr (omega (arith, mul-le-mul-right b p))) (apart n m ne)
+module _ (at : List ℕ) (d b : ℕ) (own : Disjoint (d + 2) b at) (a₀ : List ℕ) (o w : ℕ) (ho : o + w ≤ b) (a m n x y : List ℕ) (h : Partly at d b o a₀ a)
+    (hx : Starts w x (later (byStart (parityP d) at a) o)) (hy : Starts w y (later (byStart (parityQ d) at a) o))
+    (hm : PutRow (getD at d 0 + o) w x a m) (hn : PutRow (getD at (d + 1) 0 + o) w y m n) where
+  -- byte j of role i is outside of role k's block
+  other : (i k j : ℕ) → i < d + 2 → k < d + 2 → i ≢ k → j < b → Outside (getD at i 0 + j) (getD at k 0) b
+  other i k j hi hk ne l = clear (getD at i 0) (getD at k 0) b j (own i k hi hk ne) l
 
-pub partly-none : (at : ℕ → ℕ) (d b : ℕ) (a₀ : List ℕ) → Partly at d b 0 a₀ a₀
-partly-none at d b a₀ = record { same-length = refl; in-p = λ j p. absurd (omega arith); in-q = λ j p. absurd (omega arith); others = λ n j p q r. refl }
+  -- the sums read data blocks alone
+  same-column : (j : ℕ) → j < b → (i : ℕ) → i < d → columnFrom at a j i ≡ columnFrom at a₀ j i
+  unfolding columnFrom
+  same-column j l i p =
+      h .others (getD at i 0 + j) (other i d j (omega arith) (omega arith) (λ e. omega arith) l) (other i (d + 1) j (omega arith) (omega arith) (λ e. omega arith) l)
 
-module _ (ns : List ℕ) (d b : ℕ) (a₀ : List ℕ) (t : Placed (d + 2) b (length a₀) ns) where
+  sum-p : Starts w x (later (byStart (parityP d) at a₀) o)
+  unfolding later byStart
+  sum-p j l = hx j l ∙ parityP-ext d (columnFrom at a (o + j)) (columnFrom at a₀ (o + j)) (same-column (o + j) (omega arith))
+
+  sum-q : Starts w y (later (byStart (parityQ d) at a₀) o)
+  unfolding later byStart
+  sum-q j l = hy j l ∙ parityQ-ext d (columnFrom at a (o + j)) (columnFrom at a₀ (o + j)) (same-column (o + j) (omega arith))
+
+  new-p : (j : ℕ) → j < o + w → columnFrom at n j d ≡ byStart (parityP d) at a₀ j
+  unfolding columnFrom
+  new-p j l =
+      hn .others (getD at d 0 + j) (narrow (getD at d 0 + j) (getD at (d + 1) 0) b o w ho (other d (d + 1) j (omega arith) (omega arith) (λ e. omega arith) (omega arith)))
+      ∙ row-more (getD at d 0) o w (byStart (parityP d) at a₀) x a m hm (h .in-p) sum-p j l
+
+  old-q : (j : ℕ) → j < o → columnFrom at m j (d + 1) ≡ byStart (parityQ d) at a₀ j
+  unfolding columnFrom
+  old-q j l =
+      hm .others (getD at (d + 1) 0 + j) (narrow (getD at (d + 1) 0 + j) (getD at d 0) b o w ho (other (d + 1) d j (omega arith) (omega arith) (λ e. omega arith) (omega arith)))
+      ∙ h .in-q j l
+
+  new-q : (j : ℕ) → j < o + w → columnFrom at n j (d + 1) ≡ byStart (parityQ d) at a₀ j
+  unfolding columnFrom
+  new-q j l = row-more (getD at (d + 1) 0) o w (byStart (parityQ d) at a₀) y m n hn old-q sum-q j l
+
+  new-others : (i : ℕ) → Outside i (getD at d 0) b → Outside i (getD at (d + 1) 0) b → getD n i 0 ≡ getD a₀ i 0
+  new-others i u v = hn .others i (narrow i (getD at (d + 1) 0) b o w ho v) ∙ hm .others i (narrow i (getD at d 0) b o w ho u) ∙ h .others i u v
+
+  pub partly-more : Partly at d b (o + w) a₀ n
+  partly-more = record { same-length = hn .same-length ∙ hm .same-length ∙ h .same-length; in-p = new-p; in-q = new-q; others = new-others }
+
+pub partly-end : (at : List ℕ) (d b o : ℕ) (a₀ a : List ℕ) → o ≡ b → Partly at d b o a₀ a → Partly at d b b a₀ a
+partly-end at d b o a₀ a e h = rw e at h
+
+-- ---- from block numbers to first bytes
+
+-- two blocks of b bytes share none
+blocks-apart : (b n m : ℕ) → n ≢ m → Apart (n * b) (m * b) b
+blocks-apart b n m ne = ⊎-elim (λ p. inl (omega (arith, mul-le-mul-right b p))) (λ p. inr (omega (arith, mul-le-mul-right b p))) (apart n m ne)
+
+-- the products of a table of block numbers stay within a word, where the blocks lie within a buffer
+pub held-within : (n b size most : ℕ) (ns : List ℕ) → size ≤ most → Placed n b size ns → Held n b most ns
+held-within n b size most ns l t = record { long = t .long; within = λ i h. let in-size = t .within i h in omega arith }
+
+module _ (n b size : ℕ) (ns at : List ℕ) (t : Placed n b size ns) (starts : Tabled n (firstByte ns b) at) where
+  pub starts-span : n ≤ length at → Spans n b size at
+  unfolding firstByte
+  starts-span long = record { long = long; within = λ i h. subst (λ (x : ℕ). x + b ≤ size) (sym (starts i h)) (t .within i h) }
+
+  pub starts-disjoint : Disjoint n b at
+  unfolding firstByte
+  starts-disjoint i m hi hm ne =
+      subst (λ (x : ℕ). Apart x (getD at m 0) b) (sym (starts i hi))
+      (subst (λ (y : ℕ). Apart (getD ns i 0 * b) y b) (sym (starts m hm)) (blocks-apart b (getD ns i 0) (getD ns m 0) (t .own i m hi hm ne)))
+
+-- ---- all columns
+
+module _ (ns at : List ℕ) (d b : ℕ) (a₀ : List ℕ) (t : Placed (d + 2) b (length a₀) ns) (starts : Tabled (d + 2) (firstByte ns b) at) where
   -- roles i and k have different blocks
   two : (i k : ℕ) → i < d + 2 → k < d + 2 → i ≢ k → numbered ns i ≢ numbered ns k
   unfolding numbered
   two i k h l ne = t .own i k h l ne
 
-  -- the sums read data blocks alone
-  same-column : (o : ℕ) (a : List ℕ) → Partly (numbered ns) d b o a₀ a → (j : ℕ) → j < b → (i : ℕ) → i < d → columnAt (numbered ns) b a j i ≡ columnAt (numbered ns) b a₀ j i
-  unfolding columnAt
-  same-column o a h j l i p =
-      h .others (numbered ns i) j l (two i d (omega arith) (omega arith) (λ e. omega arith)) (two i (d + 1) (omega arith) (omega arith) (λ e. omega arith))
+  -- a byte of a role's block, by its block number and by its first byte
+  by-number : (a : List ℕ) (j i : ℕ) → i < d + 2 → columnAt (numbered ns) b a j i ≡ columnFrom at a j i
+  unfolding columnAt byteOf numbered columnFrom firstByte
+  by-number a j i l = ap (λ (x : ℕ). getD a (x + j) 0) (sym (starts i l))
 
-  module _ (o w : ℕ) (ho : o + w ≤ b) (a x y n : List ℕ) (h : Partly (numbered ns) d b o a₀ a)
-      (hx : Starts w x (later (byColumn (parityP d) (numbered ns) b a) o)) (hy : Starts w y (later (byColumn (parityQ d) (numbered ns) b a) o))
-      (hn : PutRows (getD ns d 0 * b + o) (getD ns (d + 1) 0 * b + o) w x y a n) where
-    sum-p : (j : ℕ) → j < b → byColumn (parityP d) (numbered ns) b a j ≡ byColumn (parityP d) (numbered ns) b a₀ j
-    unfolding byColumn
-    sum-p j l = parityP-ext d (columnAt (numbered ns) b a j) (columnAt (numbered ns) b a₀ j) (same-column o a h j l)
+  made-p : (j : ℕ) → byStart (parityP d) at a₀ j ≡ byColumn (parityP d) (numbered ns) b a₀ j
+  unfolding byStart byColumn
+  made-p j = parityP-ext d (columnFrom at a₀ j) (columnAt (numbered ns) b a₀ j) (λ i l. sym (by-number a₀ j i (omega arith)))
 
-    sum-q : (j : ℕ) → j < b → byColumn (parityQ d) (numbered ns) b a j ≡ byColumn (parityQ d) (numbered ns) b a₀ j
-    unfolding byColumn
-    sum-q j l = parityQ-ext d (columnAt (numbered ns) b a j) (columnAt (numbered ns) b a₀ j) (same-column o a h j l)
+  made-q : (j : ℕ) → byStart (parityQ d) at a₀ j ≡ byColumn (parityQ d) (numbered ns) b a₀ j
+  unfolding byStart byColumn
+  made-q j = parityQ-ext d (columnFrom at a₀ j) (columnAt (numbered ns) b a₀ j) (λ i l. sym (by-number a₀ j i (omega arith)))
 
-    p-q : getD ns d 0 ≢ getD ns (d + 1) 0
-    p-q = t .own d (d + 1) (omega arith) (omega arith) (λ e. omega arith)
+  -- a byte of another block than role i's is outside of that
+  beside : (n j i : ℕ) → i < d + 2 → j < b → n ≢ numbered ns i → Outside (n * b + j) (getD at i 0) b
+  unfolding numbered firstByte
+  beside n j i h l ne = clear (n * b) (getD at i 0) b j (subst (λ (x : ℕ). Apart (n * b) x b) (sym (starts i h)) (blocks-apart b n (getD ns i 0) ne)) l
 
-    -- column j of P: made before, or now
-    new-p : (j : ℕ) → j < o + w → byteOf b n (numbered ns d) j ≡ byColumn (parityP d) (numbered ns) b a₀ j
-    unfolding byteOf numbered
-    new-p j l =
-        ⊎-elim
-        (λ q. hn .others (getD ns d 0 * b + j) (inl (omega arith)) (away b o w (getD ns d 0) (getD ns (d + 1) 0) j p-q (omega arith) ho) ∙ h .in-p j q)
-        (λ q. inside (j - o) (omega arith) (omega arith)) (less-or-not j o)
+  module _ (a : List ℕ) (h : Partly at d b b a₀ a) where
+    all-p : (j : ℕ) → j < b → byteOf b a (numbered ns d) j ≡ byColumn (parityP d) (numbered ns) b a₀ j
+    unfolding columnAt
+    all-p j l = by-number a j d (omega arith) ∙ h .in-p j l ∙ made-p j
+
+    all-q : (j : ℕ) → j < b → byteOf b a (numbered ns (d + 1)) j ≡ byColumn (parityQ d) (numbered ns) b a₀ j
+    unfolding columnAt
+    all-q j l = by-number a j (d + 1) (omega arith) ∙ h .in-q j l ∙ made-q j
+
+    all-others : (n j : ℕ) → j < b → n ≢ numbered ns d → n ≢ numbered ns (d + 1) → byteOf b a n j ≡ byteOf b a₀ n j
+    unfolding byteOf
+    all-others n j l u v = h .others (n * b + j) (beside n j d (omega arith) l u) (beside n j (d + 1) (omega arith) l v)
+
+    pub partly-all : 0 < b → a ≡ parityMade (numbered ns) d b a₀
+    partly-all hb =
+        ext-getD 0 a (parityMade (numbered ns) d b a₀) (h .same-length ∙ sym (made-length (numbered ns) d b a₀ within two))
+        (λ i l. ap (λ (k : ℕ). getD a k 0) (sym (div-add-mod' i b))
+        ∙ cell-same (i / b) (i % b) (mod-lt i hb) (ℕ-discrete (i / b) (numbered ns (d + 1))) (ℕ-discrete (i / b) (numbered ns d))
+        ∙ ap (λ (k : ℕ). getD (parityMade (numbered ns) d b a₀) k 0) (div-add-mod' i b))
       where
-        inside : (k : ℕ) → j ≡ o + k → k < w → getD n (getD ns d 0 * b + j) 0 ≡ byColumn (parityP d) (numbered ns) b a₀ j
-        inside k e lw =
-            let spot : getD ns d 0 * b + j ≡ getD ns d 0 * b + o + k = omega arith in
-            let column : later (byColumn (parityP d) (numbered ns) b a) o k ≡ byColumn (parityP d) (numbered ns) b a j = unfold later in ap (byColumn (parityP d) (numbered ns) b a) (sym e) in
-            ap (λ (i : ℕ). getD n i 0) spot ∙ hn .in-p k lw ∙ hx k lw ∙ column ∙ sum-p j (omega arith)
+        within : (i : ℕ) → i < d + 2 → numbered ns i * b + b ≤ length a₀
+        within i l = unfold numbered in t .within i l
 
-    new-q : (j : ℕ) → j < o + w → byteOf b n (numbered ns (d + 1)) j ≡ byColumn (parityQ d) (numbered ns) b a₀ j
-    unfolding byteOf numbered
-    new-q j l =
-        ⊎-elim
-        (λ q. hn .others (getD ns (d + 1) 0 * b + j) (away b o w (getD ns (d + 1) 0) (getD ns d 0) j (λ e. p-q (sym e)) (omega arith) ho) (inl (omega arith)) ∙ h .in-q j q)
-        (λ q. inside (j - o) (omega arith) (omega arith)) (less-or-not j o)
-      where
-        inside : (k : ℕ) → j ≡ o + k → k < w → getD n (getD ns (d + 1) 0 * b + j) 0 ≡ byColumn (parityQ d) (numbered ns) b a₀ j
-        inside k e lw =
-            let spot : getD ns (d + 1) 0 * b + j ≡ getD ns (d + 1) 0 * b + o + k = omega arith in
-            let column : later (byColumn (parityQ d) (numbered ns) b a) o k ≡ byColumn (parityQ d) (numbered ns) b a j = unfold later in ap (byColumn (parityQ d) (numbered ns) b a) (sym e) in
-            ap (λ (i : ℕ). getD n i 0) spot ∙ hn .in-q k lw ∙ hy k lw ∙ column ∙ sum-q j (omega arith)
+        whole : List ℕ
+        whole = parityMade (numbered ns) d b a₀
 
-    new-others : (m j : ℕ) → j < b → m ≢ numbered ns d → m ≢ numbered ns (d + 1) → byteOf b n m j ≡ byteOf b a₀ m j
-    unfolding byteOf numbered
-    new-others m j l u v = hn .others (m * b + j) (away b o w m (getD ns d 0) j u l ho) (away b o w m (getD ns (d + 1) 0) j v l ho) ∙ h .others m j l u v
+        at-byte : (n j : ℕ) → j < b → Dec (n ≡ numbered ns (d + 1)) → Dec (n ≡ numbered ns d) → byteOf b a n j ≡ byteOf b whole n j
+        at-byte n j l (yes e) c =
+            ap (λ (m : ℕ). byteOf b a m j) e ∙ all-q j l ∙ sym (made-in-q (numbered ns) d b a₀ within two j l) ∙ ap (λ (m : ℕ). byteOf b whole m j) (sym e)
+        at-byte n j l (no u) (yes e) =
+            ap (λ (m : ℕ). byteOf b a m j) e ∙ all-p j l ∙ sym (made-in-p (numbered ns) d b a₀ within two j l) ∙ ap (λ (m : ℕ). byteOf b whole m j) (sym e)
+        at-byte n j l (no u) (no v) = all-others n j l v u ∙ sym (made-others (numbered ns) d b a₀ within two n j l v u)
 
-    pub partly-more : Partly (numbered ns) d b (o + w) a₀ n
-    partly-more = record { same-length = hn .same-length ∙ h .same-length; in-p = new-p; in-q = new-q; others = new-others }
-
-  -- ---- all columns
-
-  pub partly-all : 0 < b → (o : ℕ) (a : List ℕ) → o ≡ b → Partly (numbered ns) d b o a₀ a → a ≡ parityMade (numbered ns) d b a₀
-  partly-all hb o a eo h =
-      ext-getD 0 a (parityMade (numbered ns) d b a₀) (h .same-length ∙ sym (made-length (numbered ns) d b a₀ within two))
-      (λ i l. ap (λ (k : ℕ). getD a k 0) (sym (div-add-mod' i b))
-      ∙ cell (i / b) (i % b) (mod-lt i hb) (ℕ-discrete (i / b) (numbered ns (d + 1))) (ℕ-discrete (i / b) (numbered ns d))
-      ∙ ap (λ (k : ℕ). getD (parityMade (numbered ns) d b a₀) k 0) (div-add-mod' i b))
-    where
-      within : (i : ℕ) → i < d + 2 → numbered ns i * b + b ≤ length a₀
-      within i l = unfold numbered in t .within i l
-
-      whole : List ℕ
-      whole = parityMade (numbered ns) d b a₀
-
-      at-byte : (n j : ℕ) → j < b → Dec (n ≡ numbered ns (d + 1)) → Dec (n ≡ numbered ns d) → byteOf b a n j ≡ byteOf b whole n j
-      at-byte n j l (yes e) c =
-          ap (λ (m : ℕ). byteOf b a m j) e ∙ h .in-q j (omega arith) ∙ sym (made-in-q (numbered ns) d b a₀ within two j l) ∙ ap (λ (m : ℕ). byteOf b whole m j) (sym e)
-      at-byte n j l (no u) (yes e) =
-          ap (λ (m : ℕ). byteOf b a m j) e ∙ h .in-p j (omega arith) ∙ sym (made-in-p (numbered ns) d b a₀ within two j l) ∙ ap (λ (m : ℕ). byteOf b whole m j) (sym e)
-      at-byte n j l (no u) (no v) = h .others n j l v u ∙ sym (made-others (numbered ns) d b a₀ within two n j l v u)
-
-      cell : (n j : ℕ) → j < b → Dec (n ≡ numbered ns (d + 1)) → Dec (n ≡ numbered ns d) → getD a (n * b + j) 0 ≡ getD (parityMade (numbered ns) d b a₀) (n * b + j) 0
-      cell n j l c e = unfold byteOf in at-byte n j l c e
-
--- a chunk more, from what the functions below say of it
-pub chunk-made : (ns : List ℕ) (d b o w : ℕ) (a x y n : List ℕ) → Placed (d + 2) b (length a) ns → o + w ≤ b
-    → Starts w x (later (byColumn (parityP d) (numbered ns) b a) o) → Starts w y (later (byColumn (parityQ d) (numbered ns) b a) o)
-    → PutRows (getD ns d 0 * b + o) (getD ns (d + 1) 0 * b + o) w x y a n
-    → (a₀ : List ℕ) → Partly (numbered ns) d b o a₀ a → Partly (numbered ns) d b (o + w) a₀ n
-chunk-made ns d b o w a x y n t ho hx hy hn a₀ h =
-    partly-more ns d b a₀ (placed-same (h .same-length) t) o w ho a x y n h hx hy hn
+        cell-same : (n j : ℕ) → j < b → Dec (n ≡ numbered ns (d + 1)) → Dec (n ≡ numbered ns d)
+            → getD a (n * b + j) 0 ≡ getD (parityMade (numbered ns) d b a₀) (n * b + j) 0
+        cell-same n j l c e = unfold byteOf in at-byte n j l c e
 
 -- a stripe more
 pub all-step : (at : ℕ → ℕ → ℕ) (d b s : ℕ) (a₀ a n : List ℕ) → a ≡ parityMadeAll s at d b a₀ → n ≡ parityMade (at s) d b a → n ≡ parityMadeAll (s + 1) at d b a₀

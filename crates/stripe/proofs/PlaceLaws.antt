@@ -67,10 +67,6 @@ placed-whole d b size ns m long t =
       own = λ i k h l ne e. ne (sym (t i h) ∙ e ∙ t k l);
     }
 
--- the same in another buffer of that length
-pub placed-same : {k b m n : ℕ} {ns : List ℕ} → m ≡ n → Placed k b m ns → Placed k b n ns
-placed-same {k} {b} {m} {n} {ns} e t = subst (λ (size : ℕ). Placed k b size ns) e t
-
 -- ---- parity made depends on the places of the roles alone
 
 pub byColumn-ext : (h : (ℕ → ℕ) → ℕ) (n : ℕ) → ((D E : ℕ → ℕ) → ((i : ℕ) → i < n → D i ≡ E i) → h D ≡ h E)

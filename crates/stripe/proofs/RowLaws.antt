@@ -1,10 +1,10 @@
--- Laws of the loops over a row of bytes: a turn of each, and what two rows stored in a buffer leave there.
+-- Laws of the loops over a row of bytes: a turn of each, and what a row stored in a buffer leaves there.
 -- Assumes nothing.
 use mathlib.Core.List.{List}
 use mathlib.Core.Logic.{_⊎_, inl, inr, ⊎-elim, _≢_}
 use mathlib.Core.Path.{_≡_, refl, sym, ap, ap₂, _∙_}
 use Prim.Native.Nat.{ℕ, _+_, _≤_, _<_}
-use native.Mathlib.Nat.{le-refl, not-suc-le-zero}
+use native.Mathlib.Nat.{le-refl}
 use native.Mathlib.Numerals.{add-one}
 use native.Mathlib.Omega.{arith}
 use lib.Bits.{bitXor}
@@ -12,7 +12,7 @@ use lib.ListN.{length, getD, set, drop, length-set}
 use lib.Seq.{paste, paste-suc, getD-drop, getD-set-same, getD-set-other}
 use borrow.Author.Count.{below-more}
 use Rattle.field.specs.Field.{double, times}
-use Rattle.stripe.specs.Steps.{Starts, taken, plus, twicePlus, doubled, scaled, Outside, Apart, PutRows}
+use Rattle.stripe.specs.Steps.{Starts, taken, plus, twicePlus, doubled, scaled, Outside, PutRow}
 use Rattle.stripe.proofs.Lists.{Filled, filled-step}
 
 -- a turn of a copy from place `from` of s to place `to`
@@ -65,54 +65,31 @@ scaled-step c q₀ q j t h l u = filled-step q₀ q j t (scaled c q₀) h l (val
 pub filled-starts : (q₀ q : List ℕ) (j w : ℕ) (f : ℕ → ℕ) → Filled q₀ q j f → w ≤ j → Starts w q f
 filled-starts q₀ q j w f h e k p = h .1 .0 k (omega arith)
 
--- ---- two rows stored side by side
+-- ---- a row stored in a buffer
 
-module _ (atp atq : ℕ) (p q a₀ : List ℕ) where
-  pub put-none : PutRows atp atq 0 p q a₀ a₀
-  put-none = record { same-length = refl; in-p = λ j h. absurd (not-suc-le-zero h); in-q = λ j h. absurd (not-suc-le-zero h); others = λ i h k. refl }
-
-  pub put-step : (j w : ℕ) (a : List ℕ) → PutRows atp atq j p q a₀ a → j < w → atp + w ≤ length a₀ → atq + w ≤ length a₀ → Apart atp atq w
-      → PutRows atp atq (j + 1) p q a₀ (set (set a (atp + j) (getD p j 0)) (atq + j) (getD q j 0))
-  put-step j w a h l hp hq ap =
+module _ (at : ℕ) (x a₀ : List ℕ) where
+  pub put-step : (j : ℕ) (a : List ℕ) → PutRow at j x a₀ a → at + j < length a₀ → PutRow at (j + 1) x a₀ (set a (at + j) (getD x j 0))
+  put-step j a h l =
       record {
-        same-length = length-set (set a (atp + j) (getD p j 0)) (atq + j) (getD q j 0) ∙ length-set a (atp + j) (getD p j 0) ∙ h .same-length;
-        in-p = new-p;
-        in-q = new-q;
-        others = λ i u v. past-q i (off i atq v) ∙ past-p i (off i atp u) ∙ h .others i (less i atp u) (less i atq v);
+        same-length = length-set a (at + j) (getD x j 0) ∙ h .same-length;
+        inside = inside-more;
+        others = λ i u. past i (off i u) ∙ h .others i (less i u);
       }
     where
-      mid : List ℕ
-      mid = set a (atp + j) (getD p j 0)
+      past : (i : ℕ) → i ≢ at + j → getD (set a (at + j) (getD x j 0)) i 0 ≡ getD a i 0
+      past i ne = getD-set-other a (at + j) i (getD x j 0) 0 ne
 
-      len : length mid ≡ length a₀
-      len = length-set a (atp + j) (getD p j 0) ∙ h .same-length
+      off : (i : ℕ) → Outside i at (j + 1) → i ≢ at + j
+      off i o e = ⊎-elim (λ z. omega arith) (λ z. omega arith) o
 
-      past-q : (i : ℕ) → i ≢ atq + j → getD (set mid (atq + j) (getD q j 0)) i 0 ≡ getD mid i 0
-      past-q i ne = getD-set-other mid (atq + j) i (getD q j 0) 0 ne
+      less : (i : ℕ) → Outside i at (j + 1) → Outside i at j
+      less i o = ⊎-elim (λ z. inl z) (λ z. inr (omega arith)) o
 
-      past-p : (i : ℕ) → i ≢ atp + j → getD mid i 0 ≡ getD a i 0
-      past-p i ne = getD-set-other a (atp + j) i (getD p j 0) 0 ne
+      inside-more : (k : ℕ) → k < j + 1 → getD (set a (at + j) (getD x j 0)) (at + k) 0 ≡ getD x k 0
+      inside-more =
+          below-more (λ (k : ℕ). getD (set a (at + j) (getD x j 0)) (at + k) 0 ≡ getD x k 0) j
+          (λ k u. past (at + k) (λ e. omega arith) ∙ h .inside k u)
+          (getD-set-same a (at + j) (getD x j 0) 0 (omega (arith, h .same-length)))
 
-      off : (i at : ℕ) → Outside i at (j + 1) → i ≢ at + j
-      off i at o e = ⊎-elim (λ z. omega arith) (λ z. omega arith) o
-
-      less : (i at : ℕ) → Outside i at (j + 1) → Outside i at j
-      less i at o = ⊎-elim (λ z. inl z) (λ z. inr (omega arith)) o
-
-      cross : (k m : ℕ) → k < w → m < w → atp + k ≢ atq + m
-      cross k m hk hm e = ⊎-elim (λ z. omega arith) (λ z. omega arith) ap
-
-      new-p : (k : ℕ) → k < j + 1 → getD (set mid (atq + j) (getD q j 0)) (atp + k) 0 ≡ getD p k 0
-      new-p =
-          below-more (λ (k : ℕ). getD (set mid (atq + j) (getD q j 0)) (atp + k) 0 ≡ getD p k 0) j
-          (λ k u. past-q (atp + k) (cross k j (omega arith) l) ∙ past-p (atp + k) (λ e. omega arith) ∙ h .in-p k u)
-          (past-q (atp + j) (cross j j l l) ∙ getD-set-same a (atp + j) (getD p j 0) 0 (omega (arith, h .same-length)))
-
-      new-q : (k : ℕ) → k < j + 1 → getD (set mid (atq + j) (getD q j 0)) (atq + k) 0 ≡ getD q k 0
-      new-q =
-          below-more (λ (k : ℕ). getD (set mid (atq + j) (getD q j 0)) (atq + k) 0 ≡ getD q k 0) j
-          (λ k u. past-q (atq + k) (λ e. omega arith) ∙ past-p (atq + k) (λ e. cross j k l (omega arith) (sym e)) ∙ h .in-q k u)
-          (getD-set-same mid (atq + j) (getD q j 0) 0 (omega (arith, len)))
-
-  pub put-end : (j w : ℕ) (a : List ℕ) → j ≡ w → PutRows atp atq j p q a₀ a → PutRows atp atq w p q a₀ a
+  pub put-end : (j w : ℕ) (a : List ℕ) → j ≡ w → PutRow at j x a₀ a → PutRow at w x a₀ a
   put-end j w a e h = rw e at h

@@ -70,7 +70,7 @@ fromBoth d x y D = times (inverse (bitXor (weight x) (weight y))) (bitXor (restQ
 unfoldable pub solved : ℕ → ℕ → ℕ → (ℕ → ℕ) → ℕ
 solved d x y D = pick (eqb x y) (fromP d x D) (pick (ltb y d) (fromBoth d x y D) (pick (eqb y d) (fromQ d x D) (fromP d x D)))
 
--- the column with its missing data worked back; a missing P or Q has no meaning here
+-- the column with its missing data recovered; a missing P or Q has no meaning here
 unfoldable pub dataSolved : ℕ → ℕ → ℕ → (ℕ → ℕ) → ℕ → ℕ
 dataSolved d x y D i = pick (eqb i x) (solved d x y D) (pick (eqb i y) (solved d y x D) (D i))
 

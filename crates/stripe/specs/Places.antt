@@ -24,6 +24,10 @@ place d S s i = memberOf d s i * S + s
 unfoldable pub numbered : List ℕ → ℕ → ℕ
 numbered ns i = getD ns i 0
 
+-- the first byte of role i's block of b bytes, from a table of block numbers
+unfoldable pub firstByte : List ℕ → ℕ → ℕ → ℕ
+firstByte ns b i = getD ns i 0 * b
+
 -- column j of the stripe whose role i is block number (at i) of a buffer
 unfoldable pub columnAt : (ℕ → ℕ) → ℕ → List ℕ → ℕ → ℕ → ℕ
 columnAt at b a j i = byteOf b a (at i) j

@@ -1,6 +1,6 @@
 -- What the loops below the calls gather, byte by byte: words for the contracts of the functions that the calls are made of.
 -- Assumes nothing.
-use mathlib.Core.Bool.{Bool, not, _&&_, _||_}
+use mathlib.Core.Bool.{Bool, _||_}
 use mathlib.Core.List.{List}
 use mathlib.Core.Logic.{_⊎_, _≢_}
 use mathlib.Core.Path.{_≡_}
@@ -8,10 +8,9 @@ use Prim.Native.Nat.{ℕ, _+_, _*_, _≤_, _<_}
 use lib.Bits.{bitXor}
 use lib.Dec.{eqb, ltb}
 use lib.ListN.{length, getD}
-use Rattle.field.specs.Field.{double, times}
-use Rattle.stripe.specs.Blocks.{byteOf}
-use Rattle.stripe.specs.Parity.{pick, weight, without, restP, parityP, parityQ, solved}
-use Rattle.stripe.specs.Places.{inOrder, byColumn, Tabled, Held, Whole}
+use Rattle.field.specs.Field.{double, times, inverse}
+use Rattle.stripe.specs.Parity.{pick, weight, without, restP, parityP, parityQ, dataSolved}
+use Rattle.stripe.specs.Places.{inOrder, Tabled, Held, Whole}
 
 -- ---- rows of bytes
 
@@ -52,25 +51,39 @@ Outside i at w = (i < at) ⊎ (at + w ≤ i)
 abbrev pub Apart : ℕ → ℕ → ℕ → Type 0
 Apart at to w = (at + w ≤ to) ⊎ (to + w ≤ at)
 
--- the buffer a is a₀ with the first w bytes of p from atp on and those of q from atq on
-pub record PutRows (atp atq w : ℕ) (p q a₀ a : List ℕ) : Type 0 where
+-- the buffer a is a₀ with the first w bytes of x from at on
+pub record PutRow (at w : ℕ) (x a₀ a : List ℕ) : Type 0 where
   pub same-length : length a ≡ length a₀
-  pub in-p : (j : ℕ) → j < w → getD a (atp + j) 0 ≡ getD p j 0
-  pub in-q : (j : ℕ) → j < w → getD a (atq + j) 0 ≡ getD q j 0
-  pub others : (i : ℕ) → Outside i atp w → Outside i atq w → getD a i 0 ≡ getD a₀ i 0
+  pub inside : (j : ℕ) → j < w → getD a (at + j) 0 ≡ getD x j 0
+  pub others : (i : ℕ) → Outside i at w → getD a i 0 ≡ getD a₀ i 0
 
--- ---- parity, made some columns at a time
+-- ---- parity, made some columns at a time; the table at has the first byte of each role's block
+
+-- the table has the first bytes of n runs of k bytes that lie within a buffer of size bytes; of n runs of k bytes that share none
+pub record Spans (n k size : ℕ) (at : List ℕ) : Type 0 where
+  pub long : n ≤ length at
+  pub within : (i : ℕ) → i < n → getD at i 0 + k ≤ size
+
+abbrev pub Disjoint : ℕ → ℕ → List ℕ → Type 0
+Disjoint n k at = (i m : ℕ) → i < n → m < n → i ≢ m → Apart (getD at i 0) (getD at m 0) k
+
+-- column j of the stripe in the buffer a; and what h makes of it
+unfoldable pub columnFrom : List ℕ → List ℕ → ℕ → ℕ → ℕ
+columnFrom at a j i = getD a (getD at i 0 + j) 0
+
+unfoldable pub byStart : ((ℕ → ℕ) → ℕ) → List ℕ → List ℕ → ℕ → ℕ
+byStart h at a j = h (columnFrom at a j)
 
 -- p and q start with columns o to o + w - 1 of the P and the Q that the stripe's data gives
-abbrev pub SumsAt : (ℕ → ℕ) → ℕ → ℕ → List ℕ → ℕ → ℕ → List ℕ → List ℕ → Type 0
-SumsAt at d b a o w p q = Starts w p (later (byColumn (parityP d) at b a) o) × Starts w q (later (byColumn (parityQ d) at b a) o)
+abbrev pub SumsAt : List ℕ → ℕ → List ℕ → ℕ → ℕ → List ℕ → List ℕ → Type 0
+SumsAt at d a o w p q = Starts w p (later (byStart (parityP d) at a) o) × Starts w q (later (byStart (parityQ d) at a) o)
 
--- the array a is a₀ but for the stripe's P and Q, whose first o columns are made of a₀'s data
-pub record Partly (at : ℕ → ℕ) (d b o : ℕ) (a₀ a : List ℕ) : Type 0 where
+-- the array a is a₀ but for the stripe's P and Q, blocks of b bytes, whose first o columns are made of a₀'s data
+pub record Partly (at : List ℕ) (d b o : ℕ) (a₀ a : List ℕ) : Type 0 where
   pub same-length : length a ≡ length a₀
-  pub in-p : (j : ℕ) → j < o → byteOf b a (at d) j ≡ byColumn (parityP d) at b a₀ j
-  pub in-q : (j : ℕ) → j < o → byteOf b a (at (d + 1)) j ≡ byColumn (parityQ d) at b a₀ j
-  pub others : (n j : ℕ) → j < b → n ≢ at d → n ≢ at (d + 1) → byteOf b a n j ≡ byteOf b a₀ n j
+  pub in-p : (j : ℕ) → j < o → columnFrom at a j d ≡ byStart (parityP d) at a₀ j
+  pub in-q : (j : ℕ) → j < o → columnFrom at a j (d + 1) ≡ byStart (parityQ d) at a₀ j
+  pub others : (i : ℕ) → Outside i (getD at d 0) b → Outside i (getD at (d + 1) 0) b → getD a i 0 ≡ getD a₀ i 0
 
 -- ---- recovery, role by role
 
@@ -106,7 +119,15 @@ comesFromP d x y = eqb x y || ltb d y
 unfoldable pub coefficient : ℕ → ℕ → ℕ → ℕ
 coefficient d x y = pick (ltb y d) (bitXor (weight x) (weight y)) (weight x)
 
--- ---- recovery in four steps, each on every column: x, then y, then P, then Q, each where it is missing
+-- byte j of w with f's added, divided by that coefficient
+unfoldable pub quotient : ℕ → ℕ → ℕ → (ℕ → ℕ) → List ℕ → ℕ → ℕ
+quotient d x y f w j = times (inverse (coefficient d x y)) (bitXor (getD w j 0) (f j))
+
+-- data x, where role y has the sum of data x and y
+unfoldable pub ofSum : ℕ → ℕ → ℕ → (ℕ → ℕ) → ℕ
+ofSum d x y D = times (inverse (coefficient d x y)) (bitXor (standingQ d x x D) (D (d + 1)))
+
+-- ---- recovery in three steps, each on every column: the data, then P, then Q, each where it is missing
 
 -- what a step asks of its arguments: the measures, a working block of b bytes, and a table of the stripe's block numbers
 pub record Workable (d b : ℕ) (stripe work ns : List ℕ) : Type 0 where
@@ -122,18 +143,12 @@ replaced m h D i = pick (eqb i m) (h D) (D i)
 unfoldable pub replacedIf : Bool → ℕ → ((ℕ → ℕ) → ℕ) → (ℕ → ℕ) → ℕ → ℕ
 replacedIf t m h D i = pick t (replaced m h D i) (D i)
 
-unfoldable pub firstStep : ℕ → ℕ → ℕ → (ℕ → ℕ) → ℕ → ℕ
-firstStep d x y = replacedIf (ltb x d) x (solved d x y)
+-- the sum of roles x and y
+unfoldable pub both : ℕ → ℕ → (ℕ → ℕ) → ℕ
+both x y D = bitXor (D x) (D y)
 
--- whether y is other data than x; and what is missing beside y then: where x is data it is there now, and y comes from P alone
-unfoldable pub isSecond : ℕ → ℕ → ℕ → Bool
-isSecond d x y = not (eqb x y) && ltb y d
-
-unfoldable pub otherMissing : ℕ → ℕ → ℕ → ℕ
-otherMissing d x y = pick (ltb x d) y x
-
-unfoldable pub secondStep : ℕ → ℕ → ℕ → (ℕ → ℕ) → ℕ → ℕ
-secondStep d x y = replacedIf (isSecond d x y) y (solved d y (otherMissing d x y))
+unfoldable pub dataStep : ℕ → ℕ → ℕ → (ℕ → ℕ) → ℕ → ℕ
+dataStep d x y D i = pick (ltb i d) (dataSolved d x y D i) (D i)
 
 unfoldable pub pStep : ℕ → ℕ → ℕ → (ℕ → ℕ) → ℕ → ℕ
 pStep d x y = replacedIf (eqb x d || eqb y d) d (parityP d)

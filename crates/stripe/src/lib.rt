@@ -1,18 +1,18 @@
 // RAID-6 parity over stripes of d data blocks, P and Q, of b bytes each: made, and missing blocks
-// worked back from the others.
+// recovered from the others.
 //
 // The two calls for C, `stripe_make_parity` and `stripe_recover`, take one stripe in a buffer of
 // its own, in the order data, P, Q, and refuse what they cannot work on. Below them, for arrays
-// that are kept by member: `parity` makes parity where the blocks stand, `recovery` works back a
+// that are kept by member: `parity` makes parity where the blocks stand, `solve` recovers a
 // missing block from the others, each in the array or in a log, `blocks` copies blocks by number and
 // `places` knows where a block stands. The contracts cite `specs/`: `Parity.antt` has the
 // mathematics, `Calls.antt` what the two calls answer and leave.
 pub mod blocks;
 pub mod parity;
 pub mod places;
-pub mod recovery;
-mod restore;
+mod recover;
 mod rows;
+pub mod solve;
 mod weights;
 
 ghost use mathlib.Core.Path.{_≡_};
@@ -41,7 +41,7 @@ pub extern "C" fn stripe_recover(d: u32, b: u32, x: u32, y: u32, stripe: &mut [u
 {
     let code = recover_code(d, b, x, y, stripe.len());
     if code == 0 {
-        restore::restore(stripe, d as usize, b as usize, x as usize, y as usize);
+        recover::recover(stripe, d as usize, b as usize, x as usize, y as usize);
     }
     code
 }

@@ -9,7 +9,7 @@ ghost use mathlib.Core.List.{List};
 ghost use Prim.Native.Nat.{ℕ, _+_, _*_, _≤_, _<_};
 ghost use lib.ListN.{length};
 ghost use Rattle.stripe.specs.Places.{inOrder, place, numbered, parityMade, parityMadeAll, Placed, Whole, Measures};
-ghost use Rattle.stripe.specs.Steps.{Starts, SumsAt, taken, plus, twicePlus, Apart, PutRows, Partly};
+ghost use Rattle.stripe.specs.Steps.{Starts, taken, plus, twicePlus, PutRow, Spans, Disjoint, SumsAt, Partly};
 
 // Makes P and Q of every stripe of the array, of stripes stripes.
 pub fn make_all_parity(array: &mut [u8], d: usize, stripes: usize, b: usize)
@@ -43,51 +43,52 @@ pub fn make_own_parity(stripe: &mut [u8], d: usize, b: usize)
 
 // Makes P and Q of the stripe whose blocks have the numbers of the table ns.
 fn make_at(array: &mut [u8], ns: &[usize], d: usize, b: usize)
-    requires { ⌜ (1 ≤ d) × ((1 ≤ b) × ((b ≤ 4096) × Placed (d + 2) b (length (now array)) (now ns))) ⌝ }
+    requires { ⌜ (1 ≤ d) × ((d ≤ 16) × ((1 ≤ b) × ((b ≤ 4096) × Placed (d + 2) b (length (now array)) (now ns)))) ⌝ }
     ensures { λ _. ⌜ now (array .exit) ≡ parityMade (numbered (now (ns .entry))) d b (now (array .entry)) ⌝ }
+{
+    let starts = places::block_starts(ns, d + 2, b);
+    make_columns(array, &starts, d, b);
+}
+
+// Makes P and Q of the stripe whose blocks start at the places of the table starts.
+fn make_columns(array: &mut [u8], starts: &[usize], d: usize, b: usize)
+    requires { ⌜ (1 ≤ d) × ((b ≤ 4096) × (Spans (d + 2) b (length (now array)) (now starts) × Disjoint (d + 2) b (now starts))) ⌝ }
+    ensures { λ _. ⌜ Partly (now (starts .entry)) d b b (now (array .entry)) (now (array .exit)) ⌝ }
 {
     let mut o: usize = 0;
     while o + 64 <= b {
-        make_chunk(array, ns, d, b, o, 64);
+        make_chunk(array, starts, d, o, 64);
         o += 64;
     }
     if o < b {
-        make_chunk(array, ns, d, b, o, b - o);
+        make_chunk(array, starts, d, o, b - o);
     }
 }
 
 // Makes columns o to o + w - 1 of P and Q.
-fn make_chunk(array: &mut [u8], ns: &[usize], d: usize, b: usize, o: usize, w: usize)
-    requires { ⌜ (1 ≤ d) × ((w ≤ 64) × ((o + w ≤ b) × Placed (d + 2) b (length (now array)) (now ns))) ⌝ }
-    ensures { λ _. ⌜ ((a₀ : List ℕ) → Partly (numbered (now (ns .entry))) d b o a₀ (now (array .entry)) → Partly (numbered (now (ns .entry))) d b (o + w) a₀ (now (array .exit))) ⌝ }
+fn make_chunk(array: &mut [u8], starts: &[usize], d: usize, o: usize, w: usize)
+    requires { ⌜ (1 ≤ d) × ((w ≤ 64) × Spans (d + 2) (o + w) (length (now array)) (now starts)) ⌝ }
+    ensures { λ _. ⌜ ((b : ℕ) (a₀ : List ℕ) → o + w ≤ b → Disjoint (d + 2) b (now (starts .entry)) → Partly (now (starts .entry)) d b o a₀ (now (array .entry)) → Partly (now (starts .entry)) d b (o + w) a₀ (now (array .exit))) ⌝ }
 {
     let mut p = [0u8; 64];
     let mut q = [0u8; 64];
-    sums(array, ns, &mut p, &mut q, d, b, o, w);
-    let atp = ns[d] * b + o;
-    let atq = ns[d + 1] * b + o;
-    put_rows(array, atp, atq, &p, &q, w);
+    sums(array, starts, &mut p, &mut q, d, o, w);
+    let atp = starts[d] + o;
+    let atq = starts[d + 1] + o;
+    put_row(array, atp, &p, w);
+    put_row(array, atq, &q, w);
 }
 
 // Sums up columns o to o + w - 1 of P in p and of Q in q.
-fn sums(
-    array: &[u8],
-    ns: &[usize],
-    p: &mut [u8],
-    q: &mut [u8],
-    d: usize,
-    b: usize,
-    o: usize,
-    w: usize,
-)
-    requires { ⌜ (1 ≤ d) × ((w ≤ length (now p)) × ((w ≤ length (now q)) × ((o + w ≤ b) × Placed (d + 2) b (length (now array)) (now ns)))) ⌝ }
-    ensures { λ _. ⌜ SumsAt (numbered (now (ns .entry))) d b (now (array .entry)) o w (now (p .exit)) (now (q .exit)) ⌝ }
+fn sums(array: &[u8], starts: &[usize], p: &mut [u8], q: &mut [u8], d: usize, o: usize, w: usize)
+    requires { ⌜ (1 ≤ d) × ((w ≤ length (now p)) × ((w ≤ length (now q)) × Spans d (o + w) (length (now array)) (now starts))) ⌝ }
+    ensures { λ _. ⌜ SumsAt (now (starts .entry)) d (now (array .entry)) o w (now (p .exit)) (now (q .exit)) ⌝ }
 {
     let mut i = d - 1;
-    first_row(array, ns[i] * b + o, p, q, w);
+    first_row(array, starts[i] + o, p, q, w);
     while 0 < i {
         i -= 1;
-        next_row(array, ns[i] * b + o, p, q, w);
+        next_row(array, starts[i] + o, p, q, w);
     }
 }
 
@@ -119,15 +120,14 @@ fn next_row(src: &[u8], at: usize, p: &mut [u8], q: &mut [u8], w: usize)
     }
 }
 
-// Stores the first w bytes of p from atp on and those of q from atq on.
-fn put_rows(array: &mut [u8], atp: usize, atq: usize, p: &[u8], q: &[u8], w: usize)
-    requires { ⌜ (atp + w ≤ length (now array)) × ((atq + w ≤ length (now array)) × ((w ≤ length (now p)) × ((w ≤ length (now q)) × Apart atp atq w))) ⌝ }
-    ensures { λ _. ⌜ PutRows atp atq w (now (p .entry)) (now (q .entry)) (now (array .entry)) (now (array .exit)) ⌝ }
+// Stores the first w bytes of row from at on.
+fn put_row(array: &mut [u8], at: usize, row: &[u8], w: usize)
+    requires { ⌜ (at + w ≤ length (now array)) × (w ≤ length (now row)) ⌝ }
+    ensures { λ _. ⌜ PutRow at w (now (row .entry)) (now (array .entry)) (now (array .exit)) ⌝ }
 {
     let mut j: usize = 0;
     while j < w {
-        array[atp + j] = p[j];
-        array[atq + j] = q[j];
+        array[at + j] = row[j];
         j += 1;
     }
 }

@@ -1,7 +1,7 @@
 // Where the blocks of a stripe stand in an array kept by member.
 ghost use mathlib.Core.Path.{_≡_};
 ghost use Prim.Native.Nat.{_+_, _*_, _≤_, _<_};
-ghost use Rattle.stripe.specs.Places.{memberOf, inOrder, place, Tabled};
+ghost use Rattle.stripe.specs.Places.{memberOf, inOrder, place, firstByte, Tabled, Held};
 
 // The member that has role i in stripe s: the layout.
 pub fn member(d: usize, s: usize, i: usize) -> usize
@@ -47,4 +47,18 @@ pub fn block_numbers(d: usize, stripes: usize, s: usize) -> [usize; 18]
         i += 1;
     }
     ns
+}
+
+// A table of the first bytes of n blocks of b bytes whose numbers the table ns has.
+pub fn block_starts(ns: &[usize], n: usize, b: usize) -> [usize; 18]
+    requires { ⌜ (n ≤ 18) × Held n b 18446744073709551615 (now ns) ⌝ }
+    ensures { λ r. ⌜ Tabled n (firstByte (now (ns .entry)) b) r ⌝ }
+{
+    let mut starts = [0usize; 18];
+    let mut i: usize = 0;
+    while i < n {
+        starts[i] = ns[i] * b;
+        i += 1;
+    }
+    starts
 }

@@ -20,7 +20,7 @@ make-at-requires c κs =
     let a = c .before .before .before .before .args in
     let table = c .before .before .block-numbers in
     let long : a .d + 2 ≤ length (table .result) = search needs in
-    (search needs, (search needs, (search needs, placed (a .d) (a .stripes) (a .s) (a .b) (length (a .array .now)) (table .result) (c .before .before .before .before .pre) long (table .ensures))))
+    (search needs, (search needs, (search needs, (search needs, placed (a .d) (a .stripes) (a .s) (a .b) (length (a .array .now)) (table .result) (c .before .before .before .before .pre) long (table .ensures)))))
 
 same-length : tie.Need-same-length
 same-length c = search needs

@@ -1,21 +1,20 @@
 -- `stripe::parity::sums` meets its contract. The loop's invariant: p and q are the sums over the data blocks from i on, Q's by Horner's rule.
 -- Assumes nothing.
 use mathlib.Core.Path.{_≡_, refl, _∙_}
-use Prim.Native.Nat.{suc, _+_, _*_, _-_, _≤_, _<_}
+use Prim.Native.Nat.{suc, _+_, _-_, _≤_, _<_}
 use native.Mathlib.Omega.{arith}
 use lib.ListN.{length, getD}
 use borrow.Author.Needs.{needs}
-use Rattle.stripe.specs.Steps.{Starts, later}
-use Rattle.stripe.specs.Places.{numbered, byColumn}
+use Rattle.stripe.specs.Steps.{Starts, later, byStart}
 use Rattle.stripe.proofs.ParityLaws.{plainFrom, hornerFrom, p-first, q-first, p-next, q-next, p-last, q-last}
 use Rattle.stripe.proofs.parity.sums.Statement.{statement}
 use Rattle.stripe.proofs.parity.sums.Tie as tie
 
 abbrev Inv-loop : tie.InvT-loop
-Inv-loop array ns p₀ q₀ d b o w i₀ p q i = (i < d) × ((length p ≡ length p₀) × ((length q ≡ length q₀) × (Starts w p (later (byColumn (plainFrom d i) (numbered ns) b array) o) × Starts w q (later (byColumn (hornerFrom d i) (numbered ns) b array) o))))
+Inv-loop array starts p₀ q₀ d o w i₀ p q i = (i < d) × ((length p ≡ length p₀) × ((length q ≡ length q₀) × (Starts w p (later (byStart (plainFrom d i) starts array) o) × Starts w q (later (byStart (hornerFrom d i) starts array) o))))
 
 abbrev μ-loop : tie.MeasureT-loop
-μ-loop array ns p₀ q₀ d b o w i₀ p q i = i
+μ-loop array starts p₀ q₀ d o w i₀ p q i = i
 
 sub-i : tie.Need-sub-i Inv-loop μ-loop
 sub-i c = search needs
@@ -26,20 +25,15 @@ mul-first-row c = search needs
 shared-slice-read-first-row : tie.Need-shared-slice-read-first-row Inv-loop μ-loop
 shared-slice-read-first-row c = search needs
 
-mul-first-row-2 : tie.Need-mul-first-row-2 Inv-loop μ-loop
-mul-first-row-2 c =
-    let start = c .before .before .before .before .before in
-    omega (arith, start .pre .1 .1 .1 .1 .within (start .args .d - 1) (omega arith))
-
 add-first-row : tie.Need-add-first-row Inv-loop μ-loop
 add-first-row c =
     let start = c .before .before .before .before .before in
-    omega (arith, start .pre .1 .1 .1 .1 .within (start .args .d - 1) (omega arith))
+    omega (arith, start .pre .1 .1 .1 .within (start .args .d - 1) (omega arith))
 
 first-row-requires : tie.Need-first-row-requires Inv-loop μ-loop
 first-row-requires c κs =
     let start = c .before .before .before .before .before .before .before in
-    let at : getD (start .args .ns .now) (start .args .d - 1) 0 * start .args .b + start .args .b ≤ length (start .args .array .now) = start .pre .1 .1 .1 .1 .within (start .args .d - 1) (omega arith) in
+    let at : getD (start .args .starts .now) (start .args .d - 1) 0 + (start .args .o + start .args .w) ≤ length (start .args .array .now) = start .pre .1 .1 .1 .within (start .args .d - 1) (omega arith) in
     (omega arith, (start .pre .1 .0, start .pre .1 .1 .0))
 
 loop-holds : tie.Need-loop-holds Inv-loop μ-loop
@@ -54,8 +48,8 @@ loop-holds c =
         (
           refl,
           (
-            p-first (a .ns .now) (a .b) (a .o) (a .w) (a .array .now) (a .d) (a .d - 1) (called .last .1 .1 .0) last (called .ensures .0),
-            q-first (a .ns .now) (a .b) (a .o) (a .w) (a .array .now) (a .d) (a .d - 1) (called .last .1 .1 .1 .0) last (called .ensures .1),
+            p-first (a .starts .now) (a .o) (a .w) (a .array .now) (a .d) (a .d - 1) (called .last .1 .1 .0) last (called .ensures .0),
+            q-first (a .starts .now) (a .o) (a .w) (a .array .now) (a .d) (a .d - 1) (called .last .1 .1 .1 .0) last (called .ensures .1),
           ),
         ),
       ),
@@ -70,21 +64,16 @@ mul-next-row c = search needs
 shared-slice-read-next-row : tie.Need-shared-slice-read-next-row Inv-loop μ-loop
 shared-slice-read-next-row c = search needs
 
-mul-next-row-2 : tie.Need-mul-next-row-2 Inv-loop μ-loop
-mul-next-row-2 c =
-    let start = c .before .before .before .before .before .before .before .before .before .before .before .before .before .before .before in
-    omega (arith, start .pre .1 .1 .1 .1 .within (c .before .before .loop .i - 1) (omega arith))
-
 add-next-row : tie.Need-add-next-row Inv-loop μ-loop
 add-next-row c =
     let start = c .before .before .before .before .before .before .before .before .before .before .before .before .before .before .before in
-    omega (arith, start .pre .1 .1 .1 .1 .within (c .before .before .loop .i - 1) (omega arith))
+    omega (arith, start .pre .1 .1 .1 .within (c .before .before .loop .i - 1) (omega arith))
 
 next-row-requires : tie.Need-next-row-requires Inv-loop μ-loop
 next-row-requires c κs =
     let start = c .before .before .before .before .before .before .before .before .before .before .before .before .before .before .before .before .before in
     let at-loop = c .before .before .before .before .loop in
-    let at : getD (start .args .ns .now) (at-loop .i - 1) 0 * start .args .b + start .args .b ≤ length (start .args .array .now) = start .pre .1 .1 .1 .1 .within (at-loop .i - 1) (omega arith) in
+    let at : getD (start .args .starts .now) (at-loop .i - 1) 0 + (start .args .o + start .args .w) ≤ length (start .args .array .now) = start .pre .1 .1 .1 .within (at-loop .i - 1) (omega arith) in
     let p-long : length (at-loop .p) ≡ length (start .args .p .now) = at-loop .inv .1 .0 ∙ c .before .before .before .before .before .before .before .before .p .given in
     let q-long : length (at-loop .q) ≡ length (start .args .q .now) = at-loop .inv .1 .1 .0 ∙ c .before .before .before .before .before .before .q .given in
     (omega arith, (omega (arith, start .pre .1 .0, p-long), omega (arith, start .pre .1 .1 .0, q-long)))
@@ -106,8 +95,8 @@ loop-again c =
         (
           c .before .q2 .given ∙ at-loop .inv .1 .1 .0,
           (
-            p-next (a .ns .now) (a .b) (a .o) (a .w) (a .array .now) (a .d) (at-loop .i) (at-loop .i - 1) (at-loop .p) (called .last .1 .1 .0) less low (at-loop .inv .1 .1 .1 .0) (called .ensures .0),
-            q-next (a .ns .now) (a .b) (a .o) (a .w) (a .array .now) (a .d) (at-loop .i) (at-loop .i - 1) (at-loop .q) (called .last .1 .1 .1 .0) less low (at-loop .inv .1 .1 .1 .1) (called .ensures .1),
+            p-next (a .starts .now) (a .o) (a .w) (a .array .now) (a .d) (at-loop .i) (at-loop .i - 1) (at-loop .p) (called .last .1 .1 .0) less low (at-loop .inv .1 .1 .1 .0) (called .ensures .0),
+            q-next (a .starts .now) (a .o) (a .w) (a .array .now) (a .d) (at-loop .i) (at-loop .i - 1) (at-loop .q) (called .last .1 .1 .1 .0) less low (at-loop .inv .1 .1 .1 .1) (called .ensures .1),
           ),
         ),
       ),
@@ -125,8 +114,8 @@ returns c =
     let a = start .args in
     let at-loop = c .before .loop in
     let done : at-loop .i ≡ 0 = omega arith in (
-      p-last (a .ns .now) (a .b) (a .o) (a .w) (a .array .now) (a .d) (at-loop .i) (at-loop .p) done (λ i. omega (arith, c .before .before .before .before .before .before .before .before .before .before .before .before .before .shared-slice-known .given i)) (at-loop .inv .1 .1 .1 .0),
-      q-last (a .ns .now) (a .b) (a .o) (a .w) (a .array .now) (a .d) (at-loop .i) (at-loop .q) done (λ i. omega (arith, c .before .before .before .before .before .before .before .before .before .before .before .before .before .shared-slice-known .given i)) (at-loop .inv .1 .1 .1 .1),
+      p-last (a .starts .now) (a .o) (a .w) (a .array .now) (a .d) (at-loop .i) (at-loop .p) done (λ i. omega (arith, c .before .before .before .before .before .before .before .before .before .before .before .before .before .shared-slice-known .given i)) (at-loop .inv .1 .1 .1 .0),
+      q-last (a .starts .now) (a .o) (a .w) (a .array .now) (a .d) (at-loop .i) (at-loop .q) done (λ i. omega (arith, c .before .before .before .before .before .before .before .before .before .before .before .before .before .shared-slice-known .given i)) (at-loop .inv .1 .1 .1 .1),
     )
 
 pub sums-spec : {M : Type 1} → statement M
@@ -138,14 +127,12 @@ sums-spec =
     sub-i
     mul-first-row
     shared-slice-read-first-row
-    mul-first-row-2
     add-first-row
     first-row-requires
     loop-holds
     sub-i-2
     mul-next-row
     shared-slice-read-next-row
-    mul-next-row-2
     add-next-row
     next-row-requires
     loop-less

@@ -1,0 +1,32 @@
+-- `stripe::solve::solve_of_sum` meets its contract: the sum by Q's weights, in which y has that of both, divided.
+-- Assumes nothing.
+use borrow.Author.Needs.{needs}
+use Rattle.stripe.proofs.solve.solve_of_sum.Statement.{statement}
+use Rattle.stripe.proofs.solve.solve_of_sum.Tie as tie
+use Rattle.stripe.proofs.solve.solve_of_sum.Reads as reads
+use Rattle.stripe.proofs.solve.solve_of_sum.Lts as lts
+use Rattle.stripe.proofs.solve.divide.Reads as divide-reads
+use Rattle.stripe.proofs.solve.gather_weighted.Reads as gather-weighted-reads
+use mathlib.Core.List.{_++_}
+use mathlib.Core.Path.{_∙_}
+use Rattle.stripe.proofs.SolveLaws.{gathers-with, of-sum}
+
+gather-weighted-requires : tie.Need-gather-weighted-requires
+gather-weighted-requires c κs = search needs
+
+divide-requires : tie.Need-divide-requires
+divide-requires c κs =
+    let pre = c .before .before .before .before .before .before .before .before .before .pre in
+    (gathers-with _ (c .before .before .work .given ∙ pre .0 .working) (pre .0), pre .1)
+
+same-length : tie.Need-same-length
+same-length c = search needs
+
+returns : tie.Need-returns
+returns c =
+    let a = c .before .before .before .before .before .before .before .before .before .before .before .before .args in
+    of-sum (a .ns .now) (a .b) (a .array .now ++ a .log .now) _ _ (a .d) (a .x) (a .y) (c .before .before .before .before .before .before .gather-weighted .ensures) (c .before .before .divide .ensures)
+
+pub solve-of-sum-spec : {M : Type 1} → statement M
+solve-of-sum-spec =
+    tie.close (tie.spec gather-weighted-requires divide-requires same-length returns)
