@@ -26,32 +26,36 @@ static int rising(const void *a, const void *b)
     return (l > r) - (l < r);
 }
 
-/* The median; the numbers are left in rising order. */
-static double median(double *numbers, unsigned count)
+/* What a call of a variant takes where nothing else runs on the processor: the time that a tenth of
+   its rounds stay below, since other load only adds to it. */
+static double clear_time(const struct line *line, unsigned v, unsigned rounds)
 {
-    qsort(numbers, count, sizeof numbers[0], rising);
-    return (numbers[(count - 1) / 2] + numbers[count / 2]) / 2;
+    double times[MOST_ROUNDS];
+    memcpy(times, line->times[v], rounds * sizeof times[0]);
+    qsort(times, rounds, sizeof times[0], rising);
+    return times[rounds / 10];
 }
 
-/* A variant's GB/s: the data blocks of a call by the median time of a call. */
+/* A variant's GB/s: the data blocks of a call by the time of a call. */
 static double speed(const struct line *line, unsigned v, unsigned rounds)
 {
-    double times[MOST_ROUNDS], data = (double)line->job.d * line->job.s * line->job.b;
-    memcpy(times, line->times[v], rounds * sizeof times[0]);
-    return data / median(times, rounds);
+    return (double)line->job.d * line->job.s * line->job.b / clear_time(line, v, rounds);
 }
 
-/* The median over the rounds of a peer's time by this library's in the same round; a slow state of
-   the machine that hits both drops out. Raises *spread to the span of the middle half. */
-static double ratio(const struct line *line, unsigned v, unsigned rounds, double *spread)
+/* This library's speed as a multiple of a peer's. */
+static double ratio(const struct line *line, unsigned v, unsigned rounds)
+{
+    return clear_time(line, v, rounds) / clear_time(line, 0, rounds);
+}
+
+/* The same with the machine's other load: the median of the ratios within each round. */
+static double loaded_ratio(const struct line *line, unsigned v, unsigned rounds)
 {
     double ratios[MOST_ROUNDS];
     for (unsigned round = 0; round < rounds; round++)
         ratios[round] = line->times[v][round] / line->times[0][round];
-    double middle = median(ratios, rounds);
-    double span = (ratios[rounds * 3 / 4] - ratios[rounds / 4]) / middle;
-    *spread = span > *spread ? span : *spread;
-    return middle;
+    qsort(ratios, rounds, sizeof ratios[0], rising);
+    return ratios[rounds / 2];
 }
 
 /* Prints the processor's name, as the kernel gives it. */
@@ -81,13 +85,13 @@ void print_terms(unsigned rounds)
     printf("no ISA-L, which is not installed; ");
 #endif
     printf("rows in plain C (gcc %s -O3), with the doubling as this library writes it and by shift and"
-           " mask; memcpy of the data blocks (it stores d blocks where parity stores two).\n", __VERSION__);
+           " mask (the same code where one block is recovered); memcpy of the data blocks (it stores d"
+           " blocks where parity stores two).\n", __VERSION__);
     printf("- Seed %u. Before the timing every result was compared byte for byte with that of %s.\n", SEED,
            strncmp(variants[1].name, "ISA-L", 5) == 0 ? "ISA-L" : variants[1].name);
-    printf("- GB/s: 10^9 bytes of data blocks (d x B a stripe, in recovery too) in a second, median of %u"
-           " rounds.\n", rounds);
-    printf("- Against a peer: this library's speed as a multiple of the peer's, the median of the ratios"
-           " within each round; in brackets the peer's GB/s.\n");
+    printf("- GB/s: 10^9 bytes of data blocks (d x B a stripe, in recovery too) in a second, by the time that a"
+           " tenth of %u rounds stay below; the rest shows what else runs on the processor.\n", rounds);
+    printf("- Against a peer: this library's speed as a multiple of the peer's; in brackets the peer's GB/s.\n");
     printf("- Stripe and recovery: one stripe, in cache, the same for all variants. In recovery the"
            " missing blocks are not cleared between calls.\n");
     printf("- Array: %zu MiB with P and Q, kept by member, the same for all variants; P and Q of all"
@@ -106,21 +110,26 @@ static void print_heading(void)
     printf("\n");
 }
 
-/* Prints the table, and below it how much the ratios varied. */
+/* Prints the table, and below it how the ratios are with the machine's other load. */
 void print_table(const struct line *lines, unsigned count, unsigned rounds)
 {
-    double spread = 0;
+    double least = 1, most = 1;
     print_heading();
     for (const struct line *line = lines; line < lines + count; line++) {
         const struct job *job = &line->job;
         printf("| %s | %u | %u | %.1f |", titles[job->work], job->d, job->b, speed(line, 0, rounds));
         for (unsigned v = 1; v < variant_count; v++) {
-            if (variants[v].call[job->work] == NULL)
+            if (variants[v].call[job->work] == NULL) {
                 printf(" - |");
-            else
-                printf(" %.2f (%.1f) |", ratio(line, v, rounds, &spread), speed(line, v, rounds));
+                continue;
+            }
+            double clear = ratio(line, v, rounds), part = loaded_ratio(line, v, rounds) / clear;
+            least = part < least ? part : least;
+            most = part > most ? part : most;
+            printf(" %.2f (%.1f) |", clear, speed(line, v, rounds));
         }
         printf("\n");
     }
-    printf("\nThe middle half of a ratio's rounds spans at most %.0f %% of its median.\n", spread * 100);
+    printf("\nWith whatever else ran at the time, by the median over all rounds, a ratio was %.2f to %.2f times the"
+           " one shown.\n", least, most);
 }

@@ -1,5 +1,5 @@
-/* The variants that are timed: for each work, the call of this library's archives, of the C rows,
-   of ISA-L where it is there, and of memcpy. */
+/* The variants that are timed: for each work, the call of this library's archives, of ISA-L where
+   it is there, of the C rows with the doubling in two spellings, and of memcpy. */
 #include "bench.h"
 #include "stripe.h"
 

@@ -1,7 +1,8 @@
--- Laws of parity made some columns at a time: the sums of a chunk, block by block from the last, and the array with a chunk more made.
+-- Laws of parity made some columns at a time: the sums of a chunk, block by block from the last, the array with a chunk more made, and the whole
+-- array, from the table of offsets to that of block numbers.
 -- Assumes nothing.
 use mathlib.Core.List.{List}
-use mathlib.Core.Logic.{_⊎_, inl, inr, ⊎-elim, _≢_}
+use mathlib.Core.Logic.{inl, inr, ⊎-elim, _≢_}
 use mathlib.Core.Path.{_≡_, sym, ap, ap₂, _∙_, subst}
 use Prim.Native.Nat.{ℕ, suc, _+_, _*_, _-_, _/_, _%_, _≤_, _<_}
 use native.Mathlib.Decide.{ℕ-discrete}
@@ -12,47 +13,16 @@ use lib.Bits.{bitXor}
 use lib.ListN.{length, getD}
 use lib.Seq.{ext-getD}
 use Rattle.field.specs.Field.{double}
-use Rattle.field.proofs.Laws.{xor-zero-l, double-zero}
 use Rattle.stripe.specs.Blocks.{byteOf}
 use Rattle.stripe.specs.Parity.{parityP, parityQ}
 use Rattle.stripe.specs.Places.{numbered, firstByte, columnAt, byColumn, parityMade, parityMadeAll, Tabled, Held, Placed}
 use Rattle.stripe.specs.Steps.{Starts, later, taken, plus, twicePlus, Outside, Apart, PutRow, Spans, Disjoint, columnFrom, byStart, Partly}
 use Rattle.stripe.proofs.Lists.{less-or-not, apart}
-use Rattle.stripe.proofs.Sums.{plain, horner, plain-sum, horner-sum}
+use Rattle.stripe.proofs.Sums.{plainFrom, hornerFrom, plain-one, horner-one, plain-more, horner-more, plain-all, horner-all}
 use Rattle.stripe.proofs.ColumnLaws.{parityP-ext, parityQ-ext}
 use Rattle.stripe.proofs.ArrayTheorems.{made-length, made-others, made-in-p, made-in-q}
 
--- ---- the sums over the data from role i on
-
-unfoldable pub plainFrom : ℕ → ℕ → (ℕ → ℕ) → ℕ
-plainFrom d i D = plain D i (d - i)
-
-unfoldable pub hornerFrom : ℕ → ℕ → (ℕ → ℕ) → ℕ
-hornerFrom d i D = horner D i (d - i)
-
-plain-one : (d i : ℕ) (D : ℕ → ℕ) → d ≡ suc i → plainFrom d i D ≡ D i
-unfolding plainFrom plain
-plain-one d i D e = let one-left : d - i ≡ suc 0 = omega arith in ap (plain D i) one-left ∙ xor-zero-l (D i)
-
-horner-one : (d i : ℕ) (D : ℕ → ℕ) → d ≡ suc i → hornerFrom d i D ≡ D i
-unfolding hornerFrom horner
-horner-one d i D e = let one-left : d - i ≡ suc 0 = omega arith in ap (horner D i) one-left ∙ ap (λ (x : ℕ). bitXor x (D i)) double-zero ∙ xor-zero-l (D i)
-
-plain-more : (d i k : ℕ) (D : ℕ → ℕ) → i ≡ suc k → i ≤ d → bitXor (plainFrom d i D) (D k) ≡ plainFrom d k D
-unfolding plainFrom plain
-plain-more d i k D e h = let more : d - k ≡ suc (d - i) = omega arith in ap (λ (m : ℕ). bitXor (plain D m (d - i)) (D k)) e ∙ ap (plain D k) (sym more)
-
-horner-more : (d i k : ℕ) (D : ℕ → ℕ) → i ≡ suc k → i ≤ d → bitXor (double (hornerFrom d i D)) (D k) ≡ hornerFrom d k D
-unfolding hornerFrom horner
-horner-more d i k D e h = let more : d - k ≡ suc (d - i) = omega arith in ap (λ (m : ℕ). bitXor (double (horner D m (d - i))) (D k)) e ∙ ap (horner D k) (sym more)
-
-plain-all : (d i : ℕ) (D : ℕ → ℕ) → i ≡ 0 → ((k : ℕ) → k < d → D k < 256) → plainFrom d i D ≡ parityP d D
-unfolding plainFrom parityP
-plain-all d i D e bytes = let all : d - i ≡ d = omega arith in ap₂ (plain D) e all ∙ plain-sum D d bytes
-
-horner-all : (d i : ℕ) (D : ℕ → ℕ) → i ≡ 0 → ((k : ℕ) → k < d → D k < 256) → hornerFrom d i D ≡ parityQ d D
-unfolding hornerFrom parityQ
-horner-all d i D e bytes = let all : d - i ≡ d = omega arith in ap₂ (horner D) e all ∙ horner-sum D d bytes
+-- ---- the sums over the data from role i on, in the array
 
 module _ (at : List ℕ) (o w : ℕ) (a : List ℕ) where
   -- byte j of a row of role i's block, from column o on

@@ -1,11 +1,10 @@
--- Laws of recovery in three steps: each step on every column, one after the other, is what recovery is defined to be.
+-- Laws of recovery in two steps: each step on every column, one after the other, is what recovery is defined to be.
 -- Assumes nothing.
 use mathlib.Core.Bool.{Bool, true, false, _||_}
 use mathlib.Core.List.{List, [], _++_, append-nil}
 use mathlib.Core.Logic.{_⊎_, inl, inr, ⊎-elim, _≢_}
 use mathlib.Core.Path.{_≡_, refl, sym, ap, ap₂, _∙_, subst}
 use Prim.Native.Nat.{ℕ, _+_, _*_, _≤_, _<_}
-use native.Mathlib.Nat.{le-refl}
 use native.Mathlib.Omega.{arith}
 use lib.Bits.{bitXor}
 use lib.Dec.{eqb}
@@ -15,61 +14,48 @@ use Rattle.field.specs.Field.{times, inverse}
 use Rattle.field.proofs.Laws.{xor-zero-l}
 use Rattle.stripe.specs.Blocks.{gen, block, byteOf, put}
 use Rattle.stripe.specs.Parity.{pick, parityP, parityQ, made, without, restP, solved, dataSolved, recovered}
-use Rattle.stripe.specs.Places.{inOrder, numbered, columnAt, byColumn, Tabled, Held, Whole}
-use Rattle.stripe.specs.Steps.{Gathers, Starts, zeros, taken, plus, thereP, standIn, standingQ, coefficient, ofSum, both, Workable, replaced, replacedIf, dataStep, pStep, qStep}
+use Rattle.stripe.specs.Places.{inOrder, numbered, columnAt, byColumn, parityMade, Tabled, Held, Whole}
+use Rattle.stripe.specs.Steps.{Gathers, Starts, zeros, taken, plus, thereP, standIn, standingQ, coefficient, ofSum, both, Workable, replaced, dataStep, parityStep}
 use Rattle.stripe.specs.Calls.{eachColumn}
 use Rattle.stripe.proofs.Lists.{less-or-not, length-gen, gen-ext}
 use Rattle.stripe.proofs.BlockLaws.{fits, ext-bytes, length-put, getD-put-in, block-whole}
 use Rattle.stripe.proofs.Sums.{same-or-not, pick-same, pick-other, pick-less, pick-not-less, without-other, without-ext}
 use Rattle.stripe.proofs.ColumnLaws.{made-data, made-p, made-q, parityP-ext, parityQ-ext, solved-ignores, second-of-two, restP-ext, standIn-plain, recovered-other}
-use Rattle.stripe.proofs.SolveLaws.{by-q}
+use Rattle.stripe.proofs.SolveLaws.{by-q, standIn-first, standIn-second, standIn-other}
 use Rattle.stripe.proofs.PlaceLaws.{byColumn-ext}
-use Rattle.stripe.proofs.CallLaws.{put-column}
+use Rattle.stripe.proofs.CallLaws.{put-column, made-alone}
 use Rattle.stripe.proofs.StripeTheorems.{length-changed, byte-changed}
 
 -- ---- a role given anew
 
 module _ (m : ℕ) (h : (ℕ → ℕ) → ℕ) (D : ℕ → ℕ) where
-  pub replaced-here : (i : ℕ) → i ≡ m → replaced m h D i ≡ h D
+  replaced-here : (i : ℕ) → i ≡ m → replaced m h D i ≡ h D
   unfolding replaced
   replaced-here i e = pick-same i m (h D) (D i) e
 
-  pub replaced-other : (i : ℕ) → i ≢ m → replaced m h D i ≡ D i
+  replaced-other : (i : ℕ) → i ≢ m → replaced m h D i ≡ D i
   unfolding replaced
   replaced-other i ne = pick-other i m (h D) (D i) ne
-
-  pub if-true : (t : Bool) → t ≡ true → (i : ℕ) → replacedIf t m h D i ≡ replaced m h D i
-  unfolding replacedIf pick
-  if-true t e i = ap (λ (u : Bool). pick u (replaced m h D i) (D i)) e
-
-  pub if-false : (t : Bool) → t ≡ false → (i : ℕ) → replacedIf t m h D i ≡ D i
-  unfolding replacedIf pick
-  if-false t e i = ap (λ (u : Bool). pick u (replaced m h D i) (D i)) e
-
-  -- another role stays, whatever the test
-  pub if-other : (t : Bool) (i : ℕ) → i ≢ m → replacedIf t m h D i ≡ D i
-  if-other true i ne = if-true true refl i ∙ replaced-other i ne
-  if-other false i ne = if-false false refl i
 
 -- ---- a stripe changed in steps
 
 -- what f makes of a column depends on its d + 2 roles alone
-abbrev pub Local : ℕ → ((ℕ → ℕ) → ℕ → ℕ) → Type 0
+abbrev Local : ℕ → ((ℕ → ℕ) → ℕ → ℕ) → Type 0
 Local d f = (D E : ℕ → ℕ) → ((i : ℕ) → i < d + 2 → D i ≡ E i) → (i : ℕ) → i < d + 2 → f D i ≡ f E i
 
-pub changed-ext : (f g : (ℕ → ℕ) → ℕ → ℕ) (d b : ℕ) (l : List ℕ) → ((j i : ℕ) → j < b → i < d + 2 → f (λ k. byteOf b l k j) i ≡ g (λ k. byteOf b l k j) i)
+changed-ext : (f g : (ℕ → ℕ) → ℕ → ℕ) (d b : ℕ) (l : List ℕ) → ((j i : ℕ) → j < b → i < d + 2 → f (λ k. byteOf b l k j) i ≡ g (λ k. byteOf b l k j) i)
     → eachColumn f d b l ≡ eachColumn g d b l
 changed-ext f g d b l e =
     ext-bytes b (d + 2) (eachColumn f d b l) (eachColumn g d b l) (length-changed f d b l) (length-changed g d b l)
     (λ i j p q. byte-changed f d b l i j p q ∙ e j i q p ∙ sym (byte-changed g d b l i j p q))
 
 -- nothing changed
-pub unchanged : (f : (ℕ → ℕ) → ℕ → ℕ) (d b : ℕ) (l : List ℕ) → length l ≡ (d + 2) * b
+unchanged : (f : (ℕ → ℕ) → ℕ → ℕ) (d b : ℕ) (l : List ℕ) → length l ≡ (d + 2) * b
     → ((j i : ℕ) → j < b → i < d + 2 → f (λ k. byteOf b l k j) i ≡ byteOf b l i j) → l ≡ eachColumn f d b l
 unchanged f d b l len e = ext-bytes b (d + 2) l (eachColumn f d b l) len (length-changed f d b l) (λ i j p q. sym (byte-changed f d b l i j p q ∙ e j i q p))
 
 -- one change after another
-pub changed-twice : (f g : (ℕ → ℕ) → ℕ → ℕ) (d b : ℕ) (l : List ℕ) → Local d g → eachColumn g d b (eachColumn f d b l) ≡ eachColumn (λ D. g (f D)) d b l
+changed-twice : (f g : (ℕ → ℕ) → ℕ → ℕ) (d b : ℕ) (l : List ℕ) → Local d g → eachColumn g d b (eachColumn f d b l) ≡ eachColumn (λ D. g (f D)) d b l
 changed-twice f g d b l local =
     ext-bytes b (d + 2) (eachColumn g d b m) (eachColumn (λ D. g (f D)) d b l) (length-changed g d b m) (length-changed (λ D. g (f D)) d b l)
     (λ i j p q.
@@ -80,47 +66,31 @@ changed-twice f g d b l local =
     m : List ℕ
     m = eachColumn f d b l
 
-pub local-replaced : (d m : ℕ) (h : (ℕ → ℕ) → ℕ) → ((D E : ℕ → ℕ) → ((i : ℕ) → i < d + 2 → D i ≡ E i) → h D ≡ h E) → Local d (replaced m h)
+local-replaced : (d m : ℕ) (h : (ℕ → ℕ) → ℕ) → ((D E : ℕ → ℕ) → ((i : ℕ) → i < d + 2 → D i ≡ E i) → h D ≡ h E) → Local d (replaced m h)
 local-replaced d m h e D E same i p =
     ⊎-elim (λ q. replaced-here m h D i q ∙ e D E same ∙ sym (replaced-here m h E i q)) (λ q. replaced-other m h D i q ∙ same i p ∙ sym (replaced-other m h E i q)) (same-or-not i m)
-
-pub local-if : (d : ℕ) (t : Bool) (m : ℕ) (h : (ℕ → ℕ) → ℕ) → (t ≡ true → (D E : ℕ → ℕ) → ((i : ℕ) → i < d + 2 → D i ≡ E i) → h D ≡ h E) → Local d (replacedIf t m h)
-local-if d false m h e D E same i p = if-false m h D false refl i ∙ same i p ∙ sym (if-false m h E false refl i)
-local-if d true m h e D E same i p =
-    if-true m h D true refl i ∙ local-replaced d m h (e refl) D E same i p ∙ sym (if-true m h E true refl i)
-
--- ---- each step looks at the stripe's roles alone
-
-module _ (d x y : ℕ) where
-  pub p-local : Local d (pStep d x y)
-  unfolding pStep
-  p-local = local-if d (eqb x d || eqb y d) d (parityP d) (λ t D E same. parityP-ext d D E (λ i p. same i (omega arith)))
-
-  pub q-local : Local d (qStep d x y)
-  unfolding qStep
-  q-local = local-if d (eqb x (d + 1) || eqb y (d + 1)) (d + 1) (parityQ d) (λ t D E same. parityQ-ext d D E (λ i p. same i (omega arith)))
 
 -- ---- the step of the data
 
 module _ (d x y : ℕ) (D : ℕ → ℕ) where
   -- data, recovered or as it was, and parity as it was
-  pub data-is : (i : ℕ) → i < d → dataStep d x y D i ≡ dataSolved d x y D i
+  data-is : (i : ℕ) → i < d → dataStep d x y D i ≡ dataSolved d x y D i
   unfolding dataStep
   data-is i h = pick-less i d (dataSolved d x y D i) (D i) h
 
-  pub parity-is : (i : ℕ) → d ≤ i → dataStep d x y D i ≡ D i
+  parity-is : (i : ℕ) → d ≤ i → dataStep d x y D i ≡ D i
   unfolding dataStep
   parity-is i h = pick-not-less i d (dataSolved d x y D i) (D i) h
 
-  pub data-first : (i : ℕ) → i < d → i ≡ x → dataStep d x y D i ≡ solved d x y D
+  data-first : (i : ℕ) → i < d → i ≡ x → dataStep d x y D i ≡ solved d x y D
   data-first i h e = data-is i h ∙ unfold dataSolved in pick-same i x (solved d x y D) (pick (eqb i y) (solved d y x D) (D i)) e
 
-  pub data-second : (i : ℕ) → i < d → i ≢ x → i ≡ y → dataStep d x y D i ≡ solved d y x D
+  data-second : (i : ℕ) → i < d → i ≢ x → i ≡ y → dataStep d x y D i ≡ solved d y x D
   data-second i h ne e =
       data-is i h
       ∙ unfold dataSolved in (pick-other i x (solved d x y D) (pick (eqb i y) (solved d y x D) (D i)) ne ∙ pick-same i y (solved d y x D) (D i) e)
 
-  pub data-other : (i : ℕ) → i ≢ x → i ≢ y → dataStep d x y D i ≡ D i
+  data-other : (i : ℕ) → i ≢ x → i ≢ y → dataStep d x y D i ≡ D i
   data-other i ne nf =
       ⊎-elim
       (λ h. data-is i h ∙ unfold dataSolved in (pick-other i x (solved d x y D) (pick (eqb i y) (solved d y x D) (D i)) ne ∙ pick-other i y (solved d y x D) (D i) nf))
@@ -128,7 +98,7 @@ module _ (d x y : ℕ) (D : ℕ → ℕ) where
 
 -- one of them is data, or x and y are the same data, or none is
 module _ (d x y : ℕ) (D : ℕ → ℕ) where
-  pub one-first : x < d → (x ≡ y) ⊎ (d ≤ y) → (i : ℕ) → replaced x (solved d x y) D i ≡ dataStep d x y D i
+  one-first : x < d → (x ≡ y) ⊎ (d ≤ y) → (i : ℕ) → replaced x (solved d x y) D i ≡ dataStep d x y D i
   one-first hx alone i =
       ⊎-elim (λ e. replaced-here x (solved d x y) D i e ∙ sym (data-first d x y D i (omega arith) e))
       (λ ne. replaced-other x (solved d x y) D i ne ∙ sym (others ne)) (same-or-not i x)
@@ -138,7 +108,7 @@ module _ (d x y : ℕ) (D : ℕ → ℕ) where
           ⊎-elim (λ l. data-other d x y D i ne (⊎-elim (λ e f. ne (f ∙ sym e)) (λ h f. omega arith) alone))
           (λ h. parity-is d x y D i h) (less-or-not i d)
 
-  pub one-second : d ≤ x → y < d → (i : ℕ) → replaced y (solved d y x) D i ≡ dataStep d x y D i
+  one-second : d ≤ x → y < d → (i : ℕ) → replaced y (solved d y x) D i ≡ dataStep d x y D i
   one-second hx hy i =
       ⊎-elim (λ e. replaced-here y (solved d y x) D i e ∙ sym (data-second d x y D i (omega arith) (λ f. omega arith) e))
       (λ nf. replaced-other y (solved d y x) D i nf ∙ sym (others nf)) (same-or-not i y)
@@ -146,10 +116,10 @@ module _ (d x y : ℕ) (D : ℕ → ℕ) where
       others : i ≢ y → dataStep d x y D i ≡ D i
       others nf = ⊎-elim (λ l. data-other d x y D i (λ f. omega arith) nf) (λ h. parity-is d x y D i h) (less-or-not i d)
 
-  pub none-data : d ≤ x → d ≤ y → (i : ℕ) → dataStep d x y D i ≡ D i
+  none-data : d ≤ x → d ≤ y → (i : ℕ) → dataStep d x y D i ≡ D i
   none-data hx hy i = ⊎-elim (λ l. data-other d x y D i (λ f. omega arith) (λ f. omega arith)) (λ h. parity-is d x y D i h) (less-or-not i d)
 
--- both are data: y gets the sum of both, x what is taken out of it, and y the rest
+-- both are data: y gets the sum of both, x comes from Q's sum in which that stands for y, and y is the rest
 module _ (d x y : ℕ) (D : ℕ → ℕ) (hd : d ≤ 16) (byte : D d < 256) (hx : x < d) (hy : y < d) (ne : x ≢ y) where
   summed : ℕ → ℕ
   summed = replaced y (restP d x y) D
@@ -167,18 +137,12 @@ module _ (d x y : ℕ) (D : ℕ → ℕ) (hd : d ≤ 16) (byte : D d < 256) (hx 
 
   -- the sum, in y's place, stands in for y
   stands : (i : ℕ) → i < d → standIn d x x summed i ≡ standIn d x y D i
-  unfolding standIn
   stands i h =
       ⊎-elim
-      (λ e. pick-same i x 0 (pick (eqb i x) (restP d x x summed) (summed i)) e ∙ sym (pick-same i x 0 (pick (eqb i y) (restP d x y D) (D i)) e))
-      (λ nx. pick-other i x 0 (pick (eqb i x) (restP d x x summed) (summed i)) nx ∙ pick-other i x (restP d x x summed) (summed i) nx ∙ there nx
-      ∙ sym (pick-other i x 0 (pick (eqb i y) (restP d x y D) (D i)) nx))
+      (λ e. standIn-first d x x summed i e ∙ sym (standIn-first d x y D i e))
+      (λ nx. standIn-other d x x summed i nx nx
+      ∙ ⊎-elim (λ e. ap summed e ∙ summed-here ∙ sym (standIn-second d x y D i nx e)) (λ nf. summed-other i nf ∙ sym (standIn-other d x y D i nx nf)) (same-or-not i y))
       (same-or-not i x)
-    where
-      there : i ≢ x → summed i ≡ pick (eqb i y) (restP d x y D) (D i)
-      there nx =
-          ⊎-elim (λ e. ap summed e ∙ summed-here ∙ sym (pick-same i y (restP d x y D) (D i) e))
-          (λ nf. summed-other i nf ∙ sym (pick-other i y (restP d x y D) (D i) nf)) (same-or-not i y)
 
   out-of-sum : ofSum d x y summed ≡ solved d x y D
   unfolding ofSum standingQ
@@ -194,7 +158,7 @@ module _ (d x y : ℕ) (D : ℕ → ℕ) (hd : d ≤ 16) (byte : D d < 256) (hx 
   unfolding split
   split-other i nx = replaced-other x (ofSum d x y) summed i nx
 
-  pub two-data : (i : ℕ) → replaced y (both x y) (replaced x (ofSum d x y) (replaced y (restP d x y) D)) i ≡ dataStep d x y D i
+  two-data : (i : ℕ) → replaced y (both x y) (replaced x (ofSum d x y) (replaced y (restP d x y) D)) i ≡ dataStep d x y D i
   unfolding summed split
   two-data i =
       ⊎-elim
@@ -206,87 +170,116 @@ module _ (d x y : ℕ) (D : ℕ → ℕ) (hd : d ≤ 16) (byte : D d < 256) (hx 
       (λ nx. split-other i nx ∙ summed-other i nf ∙ sym (data-other d x y D i nx nf)) (same-or-not i x))
       (same-or-not i y)
 
--- ---- the three steps are recovery
+-- ---- the step of the parity
 
-module _ (d x y : ℕ) (D : ℕ → ℕ) where
-  P-done : ℕ → ℕ
-  P-done = pStep d x y (dataStep d x y D)
+-- a role is data, P or Q
+role : (d i : ℕ) → i < d + 2 → (i < d) ⊎ ((i ≡ d) ⊎ (i ≡ d + 1))
+role d i h = ⊎-elim (λ l. inl l) (λ l. inr (⊎-elim (λ e. inl e) (λ ne. inr (omega arith)) (same-or-not i d))) (less-or-not i d)
 
-  Q-done : ℕ → ℕ
-  Q-done = qStep d x y P-done
+-- what is made looks at the data alone
+made-ext : (d : ℕ) (D E : ℕ → ℕ) → ((i : ℕ) → i < d → D i ≡ E i) → (i : ℕ) → i < d + 2 → made d D i ≡ made d E i
+made-ext d D E same i h =
+    ⊎-elim
+    (λ l. made-data d D i l ∙ same i l ∙ sym (made-data d E i l))
+    (⊎-elim
+    (λ e. ap (made d D) e ∙ made-p d D ∙ parityP-ext d D E same ∙ sym (made-p d E) ∙ ap (made d E) (sym e))
+    (λ e. ap (made d D) e ∙ made-q d D ∙ parityQ-ext d D E same ∙ sym (made-q d E) ∙ ap (made d E) (sym e)))
+    (role d i h)
 
-  p-other : (i : ℕ) → i ≢ d → P-done i ≡ dataStep d x y D i
-  unfolding P-done pStep
-  p-other i ne = if-other d (parityP d) (dataStep d x y D) (eqb x d || eqb y d) i ne
+module _ (d x y : ℕ) where
+  module _ (D : ℕ → ℕ) (i : ℕ) where
+    named : (eqb x i || eqb y i) ≡ true → parityStep d x y D i ≡ made d D i
+    unfolding parityStep pick
+    named e = ap (λ (t : Bool). pick t (made d D i) (D i)) e
 
-  q-other : (i : ℕ) → i ≢ d + 1 → Q-done i ≡ P-done i
-  unfolding Q-done qStep
-  q-other i ne = if-other (d + 1) (parityQ d) P-done (eqb x (d + 1) || eqb y (d + 1)) i ne
+    not-named : (eqb x i || eqb y i) ≡ false → parityStep d x y D i ≡ D i
+    unfolding parityStep pick
+    not-named e = ap (λ (t : Bool). pick t (made d D i) (D i)) e
 
-  -- a role is named, or is not
-  named-or-not : (m : ℕ) → ((m ≡ x) ⊎ (m ≡ y)) ⊎ ((m ≢ x) × (m ≢ y))
-  named-or-not m = ⊎-elim (λ e. inl (inl e)) (λ u. ⊎-elim (λ e. inl (inr e)) (λ v. inr (u, v)) (same-or-not m y)) (same-or-not m x)
+    -- data stays, named or not
+    data-stays : i < d → parityStep d x y D i ≡ D i
+    unfolding parityStep
+    data-stays h = either (eqb x i || eqb y i)
+      where
+        either : (t : Bool) → pick t (made d D i) (D i) ≡ D i
+        either true = unfold pick in made-data d D i h
+        either false = unfold pick in refl
 
-  test-true : (m : ℕ) → (m ≡ x) ⊎ (m ≡ y) → (eqb x m || eqb y m) ≡ true
-  test-true m = ⊎-elim (λ e. ap (λ (t : Bool). t || eqb y m) (eq-eqb x m (sym e))) (λ e. either (eqb x m) (eq-eqb y m (sym e)))
+  parity-local : Local d (parityStep d x y)
+  unfolding parityStep
+  parity-local D E same i h = either (eqb x i || eqb y i)
     where
-      either : (s : Bool) → eqb y m ≡ true → (s || eqb y m) ≡ true
+      either : (t : Bool) → pick t (made d D i) (D i) ≡ pick t (made d E i) (E i)
+      either true = unfold pick in made-ext d D E (λ k l. same k (omega arith)) i h
+      either false = unfold pick in same i h
+
+  -- P and Q are named, one of them, none
+  module _ (D : ℕ → ℕ) (i : ℕ) (h : i < d + 2) where
+    both-made : (eqb x d || eqb y d) ≡ true → (eqb x (d + 1) || eqb y (d + 1)) ≡ true → made d D i ≡ parityStep d x y D i
+    both-made tp tq =
+        ⊎-elim (λ l. made-data d D i l ∙ sym (data-stays D i l))
+        (⊎-elim
+        (λ e. ap (made d D) e ∙ sym (named D d tp) ∙ ap (parityStep d x y D) (sym e))
+        (λ e. ap (made d D) e ∙ sym (named D (d + 1) tq) ∙ ap (parityStep d x y D) (sym e)))
+        (role d i h)
+
+    p-made : (eqb x d || eqb y d) ≡ true → (eqb x (d + 1) || eqb y (d + 1)) ≡ false → replaced d (parityP d) D i ≡ parityStep d x y D i
+    p-made tp tq =
+        ⊎-elim (λ l. replaced-other d (parityP d) D i (λ e. omega arith) ∙ sym (data-stays D i l))
+        (⊎-elim
+        (λ e. replaced-here d (parityP d) D i e ∙ sym (made-p d D) ∙ sym (named D d tp) ∙ ap (parityStep d x y D) (sym e))
+        (λ e. replaced-other d (parityP d) D i (λ f. omega arith) ∙ ap D e ∙ sym (not-named D (d + 1) tq) ∙ ap (parityStep d x y D) (sym e)))
+        (role d i h)
+
+    q-made : (eqb x d || eqb y d) ≡ false → (eqb x (d + 1) || eqb y (d + 1)) ≡ true → replaced (d + 1) (parityQ d) D i ≡ parityStep d x y D i
+    q-made tp tq =
+        ⊎-elim (λ l. replaced-other (d + 1) (parityQ d) D i (λ e. omega arith) ∙ sym (data-stays D i l))
+        (⊎-elim
+        (λ e. replaced-other (d + 1) (parityQ d) D i (λ f. omega arith) ∙ ap D e ∙ sym (not-named D d tp) ∙ ap (parityStep d x y D) (sym e))
+        (λ e. replaced-here (d + 1) (parityQ d) D i e ∙ sym (made-q d D) ∙ sym (named D (d + 1) tq) ∙ ap (parityStep d x y D) (sym e)))
+        (role d i h)
+
+    none-made : (eqb x d || eqb y d) ≡ false → (eqb x (d + 1) || eqb y (d + 1)) ≡ false → parityStep d x y D i ≡ D i
+    none-made tp tq =
+        ⊎-elim (data-stays D i)
+        (⊎-elim (λ e. ap (parityStep d x y D) e ∙ not-named D d tp ∙ ap D (sym e)) (λ e. ap (parityStep d x y D) e ∙ not-named D (d + 1) tq ∙ ap D (sym e)))
+        (role d i h)
+
+-- ---- the two steps are recovery
+
+module _ (d x y : ℕ) (D : ℕ → ℕ) (i : ℕ) where
+  -- a role is named, or is not
+  named-or-not : ((i ≡ x) ⊎ (i ≡ y)) ⊎ ((i ≢ x) × (i ≢ y))
+  named-or-not = ⊎-elim (λ e. inl (inl e)) (λ u. ⊎-elim (λ e. inl (inr e)) (λ v. inr (u, v)) (same-or-not i y)) (same-or-not i x)
+
+  test-true : (i ≡ x) ⊎ (i ≡ y) → (eqb x i || eqb y i) ≡ true
+  test-true = ⊎-elim (λ e. ap (λ (t : Bool). t || eqb y i) (eq-eqb x i (sym e))) (λ e. either (eqb x i) (eq-eqb y i (sym e)))
+    where
+      either : (s : Bool) → eqb y i ≡ true → (s || eqb y i) ≡ true
       either true f = refl
       either false f = f
 
-  test-false : (m : ℕ) → (m ≢ x) × (m ≢ y) → (eqb x m || eqb y m) ≡ false
-  test-false m n = ap₂ (λ (s t : Bool). s || t) (ne-eqb x m (λ e. n .0 (sym e))) (ne-eqb y m (λ e. n .1 (sym e)))
+  test-false : (i ≢ x) × (i ≢ y) → (eqb x i || eqb y i) ≡ false
+  test-false n = ap₂ (λ (s t : Bool). s || t) (ne-eqb x i (λ e. n .0 (sym e))) (ne-eqb y i (λ e. n .1 (sym e)))
 
-  recovered-named : (i : ℕ) → (i ≡ x) ⊎ (i ≡ y) → recovered d x y D i ≡ made d (dataSolved d x y D) i
+  recovered-named : (i ≡ x) ⊎ (i ≡ y) → recovered d x y D i ≡ made d (dataSolved d x y D) i
   unfolding recovered
-  recovered-named i =
+  recovered-named =
       ⊎-elim (λ e. pick-same i x (made d (dataSolved d x y D) i) (pick (eqb i y) (made d (dataSolved d x y D) i) (D i)) e)
       (λ e. ⊎-elim (λ f. pick-same i x (made d (dataSolved d x y D) i) (pick (eqb i y) (made d (dataSolved d x y D) i) (D i)) f)
       (λ f. pick-other i x (made d (dataSolved d x y D) i) (pick (eqb i y) (made d (dataSolved d x y D) i) (D i)) f ∙ pick-same i y (made d (dataSolved d x y D) i) (D i) e) (same-or-not i x))
 
-  recovered-kept : (i : ℕ) → (i ≢ x) × (i ≢ y) → recovered d x y D i ≡ D i
-  recovered-kept i n = recovered-other d x y D i (n .0) (n .1)
-
-  data-recovered : (i : ℕ) → i < d → recovered d x y D i ≡ dataStep d x y D i
-  data-recovered i h =
-      ⊎-elim (λ n. recovered-named i n ∙ made-data d (dataSolved d x y D) i h ∙ sym (data-is d x y D i h))
-      (λ n. recovered-kept i n ∙ sym (data-other d x y D i (n .0) (n .1))) (named-or-not i)
-
-  p-recovered : recovered d x y D d ≡ P-done d
-  unfolding P-done pStep
-  p-recovered =
+  steps-recover : i < d + 2 → parityStep d x y (dataStep d x y D) i ≡ recovered d x y D i
+  steps-recover h =
       ⊎-elim
-      (λ n. recovered-named d n ∙ made-p d (dataSolved d x y D) ∙ parityP-ext d (dataSolved d x y D) (dataStep d x y D) (λ i h. sym (data-is d x y D i h))
-      ∙ sym (if-true d (parityP d) (dataStep d x y D) (eqb x d || eqb y d) (test-true d n) d ∙ replaced-here d (parityP d) (dataStep d x y D) d refl))
-      (λ n. recovered-kept d n ∙ sym (if-false d (parityP d) (dataStep d x y D) (eqb x d || eqb y d) (test-false d n) d ∙ parity-is d x y D d (le-refl d)))
-      (named-or-not d)
-
-  q-recovered : recovered d x y D (d + 1) ≡ Q-done (d + 1)
-  unfolding Q-done qStep
-  q-recovered =
-      ⊎-elim
-      (λ n. recovered-named (d + 1) n ∙ made-q d (dataSolved d x y D)
-      ∙ parityQ-ext d (dataSolved d x y D) P-done (λ i h. sym (p-other i (λ e. omega arith) ∙ data-is d x y D i h))
-      ∙ sym (if-true (d + 1) (parityQ d) P-done (eqb x (d + 1) || eqb y (d + 1)) (test-true (d + 1) n) (d + 1) ∙ replaced-here (d + 1) (parityQ d) P-done (d + 1) refl))
-      (λ n. recovered-kept (d + 1) n
-      ∙ sym (if-false (d + 1) (parityQ d) P-done (eqb x (d + 1) || eqb y (d + 1)) (test-false (d + 1) n) (d + 1) ∙ p-other (d + 1) (λ e. omega arith) ∙ parity-is d x y D (d + 1) (omega arith)))
-      (named-or-not (d + 1))
-
-  pub steps-recover : (i : ℕ) → i < d + 2 → qStep d x y (pStep d x y (dataStep d x y D)) i ≡ recovered d x y D i
-  unfolding Q-done P-done
-  steps-recover i h =
-      ⊎-elim
-      (λ l. q-other i (λ e. omega arith) ∙ p-other i (λ e. omega arith) ∙ sym (data-recovered i l))
-      (λ l. ⊎-elim
-      (λ e. ap Q-done e ∙ q-other d (λ f. omega arith) ∙ sym p-recovered ∙ ap (recovered d x y D) (sym e))
-      (λ ne. let e : i ≡ d + 1 = omega arith in ap Q-done e ∙ sym q-recovered ∙ ap (recovered d x y D) (sym e))
-      (same-or-not i d))
-      (less-or-not i d)
+      (λ n. named d x y (dataStep d x y D) i (test-true n) ∙ made-ext d (dataStep d x y D) (dataSolved d x y D) (data-is d x y D) i h ∙ sym (recovered-named n))
+      (λ n. not-named d x y (dataStep d x y D) i (test-false n) ∙ data-other d x y D i (n .0) (n .1) ∙ sym (recovered-other d x y D i (n .0) (n .1)))
+      named-or-not
 
 -- ---- a block gathered in work and copied out
 
 -- what h makes of each column, gathered by way of the table and copied to role m
-pub column-put : (h : (ℕ → ℕ) → ℕ) (d b m : ℕ) (ns l w n : List ℕ) → ((D E : ℕ → ℕ) → ((i : ℕ) → i < d + 2 → D i ≡ E i) → h D ≡ h E)
+column-put : (h : (ℕ → ℕ) → ℕ) (d b m : ℕ) (ns l w n : List ℕ) → ((D E : ℕ → ℕ) → ((i : ℕ) → i < d + 2 → D i ≡ E i) → h D ≡ h E)
     → length l ≡ (d + 2) * b → Tabled (d + 2) inOrder ns → m < d + 2 → w ≡ gen b (byColumn h (numbered ns) b (l ++ [])) → n ≡ put b m (block b 0 w) l
     → n ≡ eachColumn (replaced m h) d b l
 column-put h d b m ns l w n local len t hm ew en =
@@ -392,13 +385,6 @@ module _ (d b : ℕ) (l w ns : List ℕ) (ok : Workable d b l w ns) where
           gen-ext b (plus (taken (getD ns y 0 * b) (m ++ [])) v) (byColumn (both x y) (numbered ns) b (m ++ []))
           (λ j q. ap₂ bitXor (cell j q) (unfold columnAt byteOf numbered in refl)))
 
-  -- a step that is taken, and one that is not
-  pub step-taken : (t : Bool) (m : ℕ) (h : (ℕ → ℕ) → ℕ) (n : List ℕ) → t ≡ true → n ≡ eachColumn (replaced m h) d b l → n ≡ eachColumn (replacedIf t m h) d b l
-  step-taken t m h n e en = en ∙ changed-ext (replaced m h) (replacedIf t m h) d b l (λ j i q p. sym (if-true m h (λ k. byteOf b l k j) t e i))
-
-  pub step-left : (t : Bool) (m : ℕ) (h : (ℕ → ℕ) → ℕ) → t ≡ false → l ≡ eachColumn (replacedIf t m h) d b l
-  step-left t m h e = unchanged (replacedIf t m h) d b l stripe-long (λ j i q p. if-false m h (λ k. byteOf b l k j) t e i)
-
 -- the same arguments after a step, which keeps all lengths
 pub workable-after : {d b : ℕ} {l w ns : List ℕ} (k v : List ℕ) → length k ≡ length l → length v ≡ length w → Workable d b l w ns → Workable d b k v ns
 workable-after {d} {b} k v ek ev ok =
@@ -407,16 +393,6 @@ workable-after {d} {b} k v ek ev ok =
 -- two steps in a row
 pub in-a-row : (f g : (ℕ → ℕ) → ℕ → ℕ) (d b : ℕ) (l m n : List ℕ) → m ≡ eachColumn f d b l → n ≡ eachColumn g d b m → n ≡ eachColumn g d b (eachColumn f d b l)
 in-a-row f g d b l m n em en = en ∙ ap (eachColumn g d b) em
-
--- the stripe after the three steps
-pub after-steps : (d b x y : ℕ) (l m n : List ℕ) → m ≡ eachColumn (dataStep d x y) d b l → n ≡ eachColumn (qStep d x y) d b (eachColumn (pStep d x y) d b m)
-    → n ≡ eachColumn (recovered d x y) d b l
-after-steps d b x y l m n em en =
-    let made-p : eachColumn (pStep d x y) d b m ≡ eachColumn (λ D. pStep d x y (dataStep d x y D)) d b l =
-    ap (eachColumn (pStep d x y) d b) em ∙ changed-twice (dataStep d x y) (pStep d x y) d b l (p-local d x y) in
-    en ∙ ap (eachColumn (qStep d x y) d b) made-p ∙ changed-twice (λ D. pStep d x y (dataStep d x y D)) (qStep d x y) d b l (q-local d x y)
-    ∙ changed-ext (λ D. qStep d x y (pStep d x y (dataStep d x y D))) (recovered d x y) d b l
-    (λ j i q p. steps-recover d x y (λ k. byteOf b l k j) i p)
 
 -- the stripe after the step of the data: two blocks of it missing, one, none
 module _ (d b x y : ℕ) (l : List ℕ) where
@@ -441,3 +417,24 @@ module _ (d b x y : ℕ) (l : List ℕ) where
 
   pub data-none : length l ≡ (d + 2) * b → d ≤ x → d ≤ y → l ≡ eachColumn (dataStep d x y) d b l
   data-none len hx hy = unchanged (dataStep d x y) d b l len (λ j i q p. none-data d x y (λ k. byteOf b l k j) hx hy i)
+
+-- the stripe after the step of the parity: P and Q named, one of them, none
+module _ (d b x y : ℕ) (l : List ℕ) (len : length l ≡ (d + 2) * b) where
+  pub parity-both : (n : List ℕ) → (eqb x d || eqb y d) ≡ true → (eqb x (d + 1) || eqb y (d + 1)) ≡ true → n ≡ parityMade inOrder d b l → n ≡ eachColumn (parityStep d x y) d b l
+  parity-both n tp tq en =
+      en ∙ made-alone d b l len ∙ changed-ext (made d) (parityStep d x y) d b l (λ j i q p. both-made d x y (λ k. byteOf b l k j) i p tp tq)
+
+  pub parity-p : (n : List ℕ) → (eqb x d || eqb y d) ≡ true → (eqb x (d + 1) || eqb y (d + 1)) ≡ false → n ≡ eachColumn (replaced d (parityP d)) d b l → n ≡ eachColumn (parityStep d x y) d b l
+  parity-p n tp tq en = en ∙ changed-ext (replaced d (parityP d)) (parityStep d x y) d b l (λ j i q p. p-made d x y (λ k. byteOf b l k j) i p tp tq)
+
+  pub parity-q : (n : List ℕ) → (eqb x d || eqb y d) ≡ false → (eqb x (d + 1) || eqb y (d + 1)) ≡ true → n ≡ eachColumn (replaced (d + 1) (parityQ d)) d b l → n ≡ eachColumn (parityStep d x y) d b l
+  parity-q n tp tq en = en ∙ changed-ext (replaced (d + 1) (parityQ d)) (parityStep d x y) d b l (λ j i q p. q-made d x y (λ k. byteOf b l k j) i p tp tq)
+
+  pub parity-none : (eqb x d || eqb y d) ≡ false → (eqb x (d + 1) || eqb y (d + 1)) ≡ false → l ≡ eachColumn (parityStep d x y) d b l
+  parity-none tp tq = unchanged (parityStep d x y) d b l len (λ j i q p. none-made d x y (λ k. byteOf b l k j) i p tp tq)
+
+-- the stripe after both steps
+pub after-steps : (d b x y : ℕ) (l m n : List ℕ) → m ≡ eachColumn (dataStep d x y) d b l → n ≡ eachColumn (parityStep d x y) d b m → n ≡ eachColumn (recovered d x y) d b l
+after-steps d b x y l m n em en =
+    en ∙ ap (eachColumn (parityStep d x y) d b) em ∙ changed-twice (dataStep d x y) (parityStep d x y) d b l (parity-local d x y)
+    ∙ changed-ext (λ D. parityStep d x y (dataStep d x y D)) (recovered d x y) d b l (λ j i q p. steps-recover d x y (λ k. byteOf b l k j) i p)

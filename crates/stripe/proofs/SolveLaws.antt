@@ -1,4 +1,4 @@
--- Laws of what the functions of `src/solve.rt` gather in a working block: a block of the array or of the log behind it added, the turns of the
+-- Laws of what the functions of `src/solve.rt` gather in a working block: a block of the array or of the log behind it taken or added, the turns of the
 -- two loops over the data blocks, and that a missing block is had so.
 -- Assumes nothing.
 use mathlib.Core.Bool.{Bool, true, false, _||_}
@@ -22,7 +22,7 @@ use Rattle.stripe.specs.Places.{numbered, columnAt, byColumn}
 use Rattle.stripe.specs.Steps.{Gathers, Starts, zeros, taken, plus, twicePlus, doubled, scaled, there, thereP, standIn, standing, standingQ, comesFromP, coefficient, quotient, ofSum}
 use Rattle.stripe.proofs.Lists.{less-or-not, getD-gen, gen-of, gen-ext}
 use Rattle.stripe.proofs.BlockLaws.{length-block, getD-block, put-whole}
-use Rattle.stripe.proofs.Sums.{same-or-not, pick-same, pick-other, pick-less, pick-not-less, without-first, without-second, without-other, horner, horner-sum, either-false}
+use Rattle.stripe.proofs.Sums.{same-or-not, pick-same, pick-other, pick-less, pick-not-less, without-first, without-second, without-other, horner, hornerFrom, horner-more, horner-all, either-false}
 use Rattle.stripe.proofs.ColumnLaws.{parityQ-ext, restP-byte, solved-same, solved-both, solved-no-p, solved-no-q, numerator, standIn-plain}
 
 -- ---- a block of the array, or of the log behind it
@@ -97,15 +97,15 @@ module _ (array log : List ℕ) (n b k : ℕ) (len : length array ≡ n * b) whe
 -- ---- the column that stands in for what is missing
 
 module _ (d x y : ℕ) (D : ℕ → ℕ) (i : ℕ) where
-  standIn-first : i ≡ x → standIn d x y D i ≡ 0
+  pub standIn-first : i ≡ x → standIn d x y D i ≡ 0
   unfolding standIn
   standIn-first e = pick-same i x 0 (pick (eqb i y) (restP d x y D) (D i)) e
 
-  standIn-second : i ≢ x → i ≡ y → standIn d x y D i ≡ restP d x y D
+  pub standIn-second : i ≢ x → i ≡ y → standIn d x y D i ≡ restP d x y D
   unfolding standIn
   standIn-second ne e = pick-other i x 0 (pick (eqb i y) (restP d x y D) (D i)) ne ∙ pick-same i y (restP d x y D) (D i) e
 
-  standIn-other : i ≢ x → i ≢ y → standIn d x y D i ≡ D i
+  pub standIn-other : i ≢ x → i ≢ y → standIn d x y D i ≡ D i
   unfolding standIn
   standIn-other ne nf = pick-other i x 0 (pick (eqb i y) (restP d x y D) (D i)) ne ∙ pick-other i y (restP d x y D) (D i) nf
 
@@ -128,25 +128,21 @@ there-more x y i D h =
     ap (bitXor (sum one (without x y D) i)) (sym (one-times (without x y D i) (without-byte x y D i h)))
     ∙ ap (sum one (without x y D)) (sym (add-one i))
 
--- the sum for Q by Horner's rule, from data block i on; and a turn of it
+-- the sum for Q by Horner's rule, from data block i on: its start, a turn of it and its end
 unfoldable pub standingFrom : ℕ → ℕ → ℕ → ℕ → (ℕ → ℕ) → ℕ
-standingFrom d x y i D = horner (standIn d x y D) i (d - i)
+standingFrom d x y i D = hornerFrom d i (standIn d x y D)
 
 standing-none : (d x y i : ℕ) (D : ℕ → ℕ) → i ≡ d → standingFrom d x y i D ≡ 0
-unfolding standingFrom horner
+unfolding standingFrom hornerFrom horner
 standing-none d x y i D e = let none : d - i ≡ 0 = omega arith in ap (horner (standIn d x y D) i) none
 
 standing-more : (d x y i k : ℕ) (D : ℕ → ℕ) → i ≡ suc k → i ≤ d → bitXor (double (standingFrom d x y i D)) (standing d x y k D) ≡ standingFrom d x y k D
-unfolding standingFrom standing horner
-standing-more d x y i k D e h =
-    let more : d - k ≡ suc (d - i) = omega arith in
-    ap (λ (m : ℕ). bitXor (double (horner (standIn d x y D) m (d - i))) (standIn d x y D k)) e ∙ ap (horner (standIn d x y D) k) (sym more)
+unfolding standingFrom standing
+standing-more d x y i k D e h = horner-more d i k (standIn d x y D) e h
 
 standing-all : (d x y i : ℕ) (D : ℕ → ℕ) → i ≡ 0 → ((k : ℕ) → D k < 256) → standingFrom d x y i D ≡ standingQ d x y D
-unfolding standingFrom standingQ parityQ
-standing-all d x y i D e bytes =
-    let all : d - i ≡ d = omega arith in
-    ap₂ (horner (standIn d x y D)) e all ∙ horner-sum (standIn d x y D) d (λ k h. standIn-byte d x y D k (bytes k) (bytes d))
+unfolding standingFrom standingQ
+standing-all d x y i D e bytes = horner-all d i (standIn d x y D) e (λ k h. standIn-byte d x y D k (bytes k) (bytes d))
 
 -- x from Q, and from P too where y is data
 pub by-q : (d x y : ℕ) (D : ℕ → ℕ) → x ≢ y → y ≤ d → times (inverse (coefficient d x y)) (bitXor (standingQ d x y D) (D (d + 1))) ≡ solved d x y D

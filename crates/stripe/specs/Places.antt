@@ -24,7 +24,7 @@ place d S s i = memberOf d s i * S + s
 unfoldable pub numbered : List ℕ → ℕ → ℕ
 numbered ns i = getD ns i 0
 
--- the first byte of role i's block of b bytes, from a table of block numbers
+-- the offset of role i's block of b bytes, from a table of block numbers
 unfoldable pub firstByte : List ℕ → ℕ → ℕ → ℕ
 firstByte ns b i = getD ns i 0 * b
 

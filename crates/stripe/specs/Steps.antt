@@ -9,7 +9,7 @@ use lib.Bits.{bitXor}
 use lib.Dec.{eqb, ltb}
 use lib.ListN.{length, getD}
 use Rattle.field.specs.Field.{double, times, inverse}
-use Rattle.stripe.specs.Parity.{pick, weight, without, restP, parityP, parityQ, dataSolved}
+use Rattle.stripe.specs.Parity.{pick, weight, parityP, parityQ, made, without, restP, dataSolved}
 use Rattle.stripe.specs.Places.{inOrder, Tabled, Held, Whole}
 
 -- ---- rows of bytes
@@ -57,9 +57,9 @@ pub record PutRow (at w : ℕ) (x a₀ a : List ℕ) : Type 0 where
   pub inside : (j : ℕ) → j < w → getD a (at + j) 0 ≡ getD x j 0
   pub others : (i : ℕ) → Outside i at w → getD a i 0 ≡ getD a₀ i 0
 
--- ---- parity, made some columns at a time; the table at has the first byte of each role's block
+-- ---- parity, made some columns at a time; the table at has the offset of each role's block
 
--- the table has the first bytes of n runs of k bytes that lie within a buffer of size bytes; of n runs of k bytes that share none
+-- the table has the offsets of n runs of k bytes that lie within a buffer of size bytes; of n runs of k bytes that share none
 pub record Spans (n k size : ℕ) (at : List ℕ) : Type 0 where
   pub long : n ≤ length at
   pub within : (i : ℕ) → i < n → getD at i 0 + k ≤ size
@@ -112,7 +112,7 @@ standing d x y i D = standIn d x y D i
 unfoldable pub standingQ : ℕ → ℕ → ℕ → (ℕ → ℕ) → ℕ
 standingQ d x y D = parityQ d (standIn d x y D)
 
--- whether data x comes from P where y is missing too; and what its weight is in the other sum
+-- whether data x comes from P where y is missing too; and what it is multiplied by in the other sum with Q added
 unfoldable pub comesFromP : ℕ → ℕ → ℕ → Bool
 comesFromP d x y = eqb x y || ltb d y
 
@@ -123,11 +123,11 @@ coefficient d x y = pick (ltb y d) (bitXor (weight x) (weight y)) (weight x)
 unfoldable pub quotient : ℕ → ℕ → ℕ → (ℕ → ℕ) → List ℕ → ℕ → ℕ
 quotient d x y f w j = times (inverse (coefficient d x y)) (bitXor (getD w j 0) (f j))
 
--- data x, where role y has the sum of data x and y
+-- data x, where role y is other data and has the sum of both
 unfoldable pub ofSum : ℕ → ℕ → ℕ → (ℕ → ℕ) → ℕ
 ofSum d x y D = times (inverse (coefficient d x y)) (bitXor (standingQ d x x D) (D (d + 1)))
 
--- ---- recovery in three steps, each on every column: the data, then P, then Q, each where it is missing
+-- ---- recovery in two steps, each on every column: the data where it is missing, then P and Q of the data
 
 -- what a step asks of its arguments: the measures, a working block of b bytes, and a table of the stripe's block numbers
 pub record Workable (d b : ℕ) (stripe work ns : List ℕ) : Type 0 where
@@ -136,22 +136,17 @@ pub record Workable (d b : ℕ) (stripe work ns : List ℕ) : Type 0 where
   pub long : d + 2 ≤ length ns
   pub table : Tabled (d + 2) inOrder ns
 
--- column D with what h makes of it for role m; and the same only where the test holds
+-- column D with what h makes of it for role m
 unfoldable pub replaced : ℕ → ((ℕ → ℕ) → ℕ) → (ℕ → ℕ) → ℕ → ℕ
 replaced m h D i = pick (eqb i m) (h D) (D i)
-
-unfoldable pub replacedIf : Bool → ℕ → ((ℕ → ℕ) → ℕ) → (ℕ → ℕ) → ℕ → ℕ
-replacedIf t m h D i = pick t (replaced m h D i) (D i)
 
 -- the sum of roles x and y
 unfoldable pub both : ℕ → ℕ → (ℕ → ℕ) → ℕ
 both x y D = bitXor (D x) (D y)
 
+-- the two steps: x and y recovered where they are data; P and Q made of the data, each where x or y is it
 unfoldable pub dataStep : ℕ → ℕ → ℕ → (ℕ → ℕ) → ℕ → ℕ
 dataStep d x y D i = pick (ltb i d) (dataSolved d x y D i) (D i)
 
-unfoldable pub pStep : ℕ → ℕ → ℕ → (ℕ → ℕ) → ℕ → ℕ
-pStep d x y = replacedIf (eqb x d || eqb y d) d (parityP d)
-
-unfoldable pub qStep : ℕ → ℕ → ℕ → (ℕ → ℕ) → ℕ → ℕ
-qStep d x y = replacedIf (eqb x (d + 1) || eqb y (d + 1)) (d + 1) (parityQ d)
+unfoldable pub parityStep : ℕ → ℕ → ℕ → (ℕ → ℕ) → ℕ → ℕ
+parityStep d x y D i = pick (eqb x i || eqb y i) (made d D i) (D i)

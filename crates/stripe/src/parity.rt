@@ -50,7 +50,7 @@ fn make_at(array: &mut [u8], ns: &[usize], d: usize, b: usize)
     make_columns(array, &starts, d, b);
 }
 
-// Makes P and Q of the stripe whose blocks start at the places of the table starts.
+// Makes P and Q of the stripe whose blocks start at the offsets of the table starts.
 fn make_columns(array: &mut [u8], starts: &[usize], d: usize, b: usize)
     requires { ⌜ (1 ≤ d) × ((b ≤ 4096) × (Spans (d + 2) b (length (now array)) (now starts) × Disjoint (d + 2) b (now starts))) ⌝ }
     ensures { λ _. ⌜ Partly (now (starts .entry)) d b b (now (array .entry)) (now (array .exit)) ⌝ }
@@ -65,7 +65,8 @@ fn make_columns(array: &mut [u8], starts: &[usize], d: usize, b: usize)
     }
 }
 
-// Makes columns o to o + w - 1 of P and Q.
+// Makes columns o to o + w - 1 of P and Q, where those before are made. In the promise b is the
+// length of the blocks, which share no byte, and a₀ the array before the first columns.
 fn make_chunk(array: &mut [u8], starts: &[usize], d: usize, o: usize, w: usize)
     requires { ⌜ (1 ≤ d) × ((w ≤ 64) × Spans (d + 2) (o + w) (length (now array)) (now starts)) ⌝ }
     ensures { λ _. ⌜ ((b : ℕ) (a₀ : List ℕ) → o + w ≤ b → Disjoint (d + 2) b (now (starts .entry)) → Partly (now (starts .entry)) d b o a₀ (now (array .entry)) → Partly (now (starts .entry)) d b (o + w) a₀ (now (array .exit))) ⌝ }

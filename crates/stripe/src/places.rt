@@ -49,7 +49,8 @@ pub fn block_numbers(d: usize, stripes: usize, s: usize) -> [usize; 18]
     ns
 }
 
-// A table of the first bytes of n blocks of b bytes whose numbers the table ns has.
+// A table of the offsets of n blocks of b bytes whose numbers the table ns has, all of which end
+// below 2 to the 64th.
 pub fn block_starts(ns: &[usize], n: usize, b: usize) -> [usize; 18]
     requires { ⌜ (n ≤ 18) × Held n b 18446744073709551615 (now ns) ⌝ }
     ensures { λ r. ⌜ Tabled n (firstByte (now (ns .entry)) b) r ⌝ }

@@ -3,6 +3,7 @@
 // One working block of 4,096 zero bytes gathers the sum of a block before it is copied out. In the
 // functions below, work is its first b bytes and ns the table of the stripe's block numbers.
 use super::blocks;
+use super::parity;
 use super::places;
 use super::rows;
 use super::solve;
@@ -13,7 +14,7 @@ ghost use lib.Dec.{eqb};
 ghost use lib.ListN.{length};
 ghost use Rattle.stripe.specs.Parity.{parityP, parityQ, restP, solved, recovered};
 ghost use Rattle.stripe.specs.Places.{Whole};
-ghost use Rattle.stripe.specs.Steps.{Workable, replaced, dataStep, both, ofSum, pStep, qStep};
+ghost use Rattle.stripe.specs.Steps.{Workable, replaced, dataStep, both, ofSum, parityStep};
 ghost use Rattle.stripe.specs.Calls.{eachColumn};
 
 // Recovers the members x and y of the stripe.
@@ -74,43 +75,16 @@ fn recover_parity(
     y: usize,
 )
     requires { ⌜ Workable d b (now stripe) (now work) (now ns) ⌝ }
-    ensures { λ _. ⌜ now (stripe .exit) ≡ eachColumn (qStep d x y) d b (eachColumn (pStep d x y) d b (now (stripe .entry))) ⌝ }
-{
-    recover_p(stripe, work, ns, d, b, x, y);
-    recover_q(stripe, work, ns, d, b, x, y);
-}
-
-// Makes P of the data where x or y is P.
-fn recover_p(
-    stripe: &mut [u8],
-    work: &mut [u8],
-    ns: &[usize],
-    d: usize,
-    b: usize,
-    x: usize,
-    y: usize,
-)
-    requires { ⌜ Workable d b (now stripe) (now work) (now ns) ⌝ }
-    ensures { λ _. ⌜ now (stripe .exit) ≡ eachColumn (pStep d x y) d b (now (stripe .entry)) ⌝ }
+    ensures { λ _. ⌜ now (stripe .exit) ≡ eachColumn (parityStep d x y) d b (now (stripe .entry)) ⌝ }
 {
     if names(x, y, d) {
+        if names(x, y, d + 1) {
+            parity::make_own_parity(stripe, d, b);
+            return;
+        }
         make_p(stripe, work, ns, d, b);
+        return;
     }
-}
-
-// Makes Q of the data where x or y is Q.
-fn recover_q(
-    stripe: &mut [u8],
-    work: &mut [u8],
-    ns: &[usize],
-    d: usize,
-    b: usize,
-    x: usize,
-    y: usize,
-)
-    requires { ⌜ Workable d b (now stripe) (now work) (now ns) ⌝ }
-    ensures { λ _. ⌜ now (stripe .exit) ≡ eachColumn (qStep d x y) d b (now (stripe .entry)) ⌝ }
-{
     if names(x, y, d + 1) {
         make_q(stripe, work, ns, d, b);
     }
@@ -144,7 +118,7 @@ fn recover_one(
     blocks::copy_block(work, 0, stripe, x, b);
 }
 
-// Recovers the data x and y, two blocks: their sum is put in y's place, and x taken out of it.
+// Recovers the data blocks x and y, which are different.
 fn recover_two(
     stripe: &mut [u8],
     work: &mut [u8],

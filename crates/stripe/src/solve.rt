@@ -50,14 +50,14 @@ pub fn solve_of_sum(
     x: usize,
     y: usize,
 )
-    requires { ⌜ Gathers d n b (now array) (now log) (now ns) (now work) × ((x < d) × (y ≤ d)) ⌝ }
+    requires { ⌜ Gathers d n b (now array) (now log) (now ns) (now work) × ((x < d) × (y < d)) ⌝ }
     ensures { λ _. ⌜ now (work .exit) ≡ gen b (byColumn (ofSum d x y) (numbered (now (ns .entry))) b (now (array .entry) ++ now (log .entry))) ⌝ }
 {
     gather_weighted(array, log, n, ns, work, d, b, x, x);
     divide(array, log, n, ns, work, d, b, x, y);
 }
 
-// Adds Q to work and divides it by what data block x is multiplied by in the sum.
+// Adds Q to work, the weighted sum, and divides it by what data block x is multiplied by in it.
 fn divide(
     array: &[u8],
     log: &[u8],
@@ -87,7 +87,8 @@ fn comes_from_p(d: usize, x: usize, y: usize) -> bool
     d < y
 }
 
-// What data block x is multiplied by in the sum by Q's weights where y is missing too.
+// What data block x is multiplied by in the weighted sum with Q added: 2^x + 2^y where y is data,
+// else 2^x.
 fn coefficient_of(d: usize, x: usize, y: usize) -> u8
     requires { ⌜ (d ≤ 16) × ((x < d) × (y ≤ d)) ⌝ }
     ensures { λ r. ⌜ r ≡ coefficient d x y ⌝ }

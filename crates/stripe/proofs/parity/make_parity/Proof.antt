@@ -1,7 +1,7 @@
 -- `stripe::parity::make_parity` meets its contract: the table of block numbers is right.
 -- Assumes nothing.
 use mathlib.Core.Path.{_∙_}
-use Prim.Native.Nat.{_+_, _-_, _≤_}
+use Prim.Native.Nat.{_+_, _≤_}
 use lib.ListN.{length}
 use borrow.Author.Needs.{needs}
 use Rattle.stripe.specs.Places.{place, numbered}

@@ -1,18 +1,14 @@
 -- `stripe::recover::make_q` meets its contract: the weighted sum of the data in work, copied out.
 -- Assumes nothing.
-use borrow.Author.Needs.{needs}
-use Rattle.stripe.proofs.recover.make_q.Statement.{statement}
-use Rattle.stripe.proofs.recover.make_q.Tie as tie
-use Rattle.stripe.proofs.recover.make_q.Reads as reads
-use Rattle.stripe.proofs.recover.make_q.Lts as lts
-use Rattle.stripe.proofs.blocks.copy_block.Reads as copy-block-reads
-use Rattle.stripe.proofs.solve.gather_weighted.Reads as gather-weighted-reads
 use mathlib.Core.Path.{_≡_, _∙_}
 use Prim.Native.Nat.{_+_}
 use native.Mathlib.Omega.{arith}
 use lib.ListN.{length}
+use borrow.Author.Needs.{needs}
 use Rattle.stripe.proofs.RecoverLaws.{stripe-long, gathers, q-put}
 use Rattle.stripe.proofs.BlockLaws.{fits}
+use Rattle.stripe.proofs.recover.make_q.Statement.{statement}
+use Rattle.stripe.proofs.recover.make_q.Tie as tie
 
 slice-aggregate-gather-weighted : tie.Need-slice-aggregate-gather-weighted
 slice-aggregate-gather-weighted c = search needs

@@ -23,7 +23,7 @@ solve-of-sum-requires c κs =
     let start = c .before .before .before .before .before .before in
     let a = start .args in
     let ok = start .pre .0 in
-    (gathers (a .d) (a .b) (a .stripe .now) (a .work .now) (a .ns .now) ok _ (ok .working), (start .pre .1 .0, omega (arith, start .pre .1 .1 .0)))
+    (gathers (a .d) (a .b) (a .stripe .now) (a .work .now) (a .ns .now) ok _ (ok .working), (start .pre .1 .0, start .pre .1 .1 .0))
 
 copy-block-requires : tie.Need-copy-block-requires
 copy-block-requires c κs =

@@ -1,17 +1,11 @@
 -- `stripe::solve::solve` meets its contract: from P alone where it can be, else from Q.
 -- Assumes nothing.
-use borrow.Author.Needs.{needs}
-use Rattle.stripe.proofs.solve.solve.Statement.{statement}
-use Rattle.stripe.proofs.solve.solve.Tie as tie
-use Rattle.stripe.proofs.solve.solve.Reads as reads
-use Rattle.stripe.proofs.solve.solve.Lts as lts
-use Rattle.stripe.proofs.solve.comes_from_p.Reads as comes-from-p-reads
-use Rattle.stripe.proofs.solve.divide.Reads as divide-reads
-use Rattle.stripe.proofs.solve.gather_rest.Reads as gather-rest-reads
-use Rattle.stripe.proofs.solve.gather_weighted.Reads as gather-weighted-reads
 use mathlib.Core.List.{_++_}
 use mathlib.Core.Path.{sym, _∙_}
+use borrow.Author.Needs.{needs}
 use Rattle.stripe.proofs.SolveLaws.{gathers-with, from-p, from-q, from-p-when, from-q-when}
+use Rattle.stripe.proofs.solve.solve.Statement.{statement}
+use Rattle.stripe.proofs.solve.solve.Tie as tie
 
 comes-from-p-requires : tie.Need-comes-from-p-requires
 comes-from-p-requires c κs = search needs

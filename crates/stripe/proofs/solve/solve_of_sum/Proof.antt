@@ -1,15 +1,12 @@
 -- `stripe::solve::solve_of_sum` meets its contract: the sum by Q's weights, in which y has that of both, divided.
 -- Assumes nothing.
-use borrow.Author.Needs.{needs}
-use Rattle.stripe.proofs.solve.solve_of_sum.Statement.{statement}
-use Rattle.stripe.proofs.solve.solve_of_sum.Tie as tie
-use Rattle.stripe.proofs.solve.solve_of_sum.Reads as reads
-use Rattle.stripe.proofs.solve.solve_of_sum.Lts as lts
-use Rattle.stripe.proofs.solve.divide.Reads as divide-reads
-use Rattle.stripe.proofs.solve.gather_weighted.Reads as gather-weighted-reads
 use mathlib.Core.List.{_++_}
 use mathlib.Core.Path.{_∙_}
+use native.Mathlib.Omega.{arith}
+use borrow.Author.Needs.{needs}
 use Rattle.stripe.proofs.SolveLaws.{gathers-with, of-sum}
+use Rattle.stripe.proofs.solve.solve_of_sum.Statement.{statement}
+use Rattle.stripe.proofs.solve.solve_of_sum.Tie as tie
 
 gather-weighted-requires : tie.Need-gather-weighted-requires
 gather-weighted-requires c κs = search needs
@@ -17,7 +14,7 @@ gather-weighted-requires c κs = search needs
 divide-requires : tie.Need-divide-requires
 divide-requires c κs =
     let pre = c .before .before .before .before .before .before .before .before .before .pre in
-    (gathers-with _ (c .before .before .work .given ∙ pre .0 .working) (pre .0), pre .1)
+    (gathers-with _ (c .before .before .work .given ∙ pre .0 .working) (pre .0), (pre .1 .0, omega (arith, pre .1 .1)))
 
 same-length : tie.Need-same-length
 same-length c = search needs
