@@ -15,7 +15,7 @@ use Rattle.field.proofs.Laws.{xor-zero-l}
 use Rattle.stripe.specs.Blocks.{gen, block, byteOf, put}
 use Rattle.stripe.specs.Parity.{pick, parityP, parityQ, made, without, restP, solved, dataSolved, recovered}
 use Rattle.stripe.specs.Places.{inOrder, numbered, columnAt, byColumn, parityMade, Tabled, Held, Whole}
-use Rattle.stripe.specs.Steps.{Gathers, Starts, zeros, taken, plus, thereP, standIn, standingQ, coefficient, ofSum, both, Workable, replaced, dataStep, parityStep}
+use Rattle.stripe.specs.Steps.{Gathers, Starts, zeros, taken, plus, thereP, standIn, standingQ, coefficient, ofSum, sumOf, Workable, replaced, dataStep, parityStep}
 use Rattle.stripe.specs.Calls.{eachColumn}
 use Rattle.stripe.proofs.Lists.{less-or-not, length-gen, gen-ext}
 use Rattle.stripe.proofs.BlockLaws.{fits, ext-bytes, length-put, getD-put-in, block-whole}
@@ -90,34 +90,27 @@ module _ (d x y : ℕ) (D : ℕ → ℕ) where
       data-is i h
       ∙ unfold dataSolved in (pick-other i x (solved d x y D) (pick (eqb i y) (solved d y x D) (D i)) ne ∙ pick-same i y (solved d y x D) (D i) e)
 
-  data-other : (i : ℕ) → i ≢ x → i ≢ y → dataStep d x y D i ≡ D i
-  data-other i ne nf =
+  -- a role that is neither, where it is data
+  data-kept : (i : ℕ) → (i < d → (i ≢ x) × (i ≢ y)) → dataStep d x y D i ≡ D i
+  data-kept i away =
       ⊎-elim
-      (λ h. data-is i h ∙ unfold dataSolved in (pick-other i x (solved d x y D) (pick (eqb i y) (solved d y x D) (D i)) ne ∙ pick-other i y (solved d y x D) (D i) nf))
-      (λ h. parity-is i h) (less-or-not i d)
+      (λ h. data-is i h ∙ unfold dataSolved in (pick-other i x (solved d x y D) (pick (eqb i y) (solved d y x D) (D i)) (away h .0) ∙ pick-other i y (solved d y x D) (D i) (away h .1)))
+      (parity-is i) (less-or-not i d)
 
 -- one of them is data, or x and y are the same data, or none is
-module _ (d x y : ℕ) (D : ℕ → ℕ) where
-  one-first : x < d → (x ≡ y) ⊎ (d ≤ y) → (i : ℕ) → replaced x (solved d x y) D i ≡ dataStep d x y D i
-  one-first hx alone i =
+module _ (d x y : ℕ) (D : ℕ → ℕ) (i : ℕ) where
+  one-first : x < d → (x ≡ y) ⊎ (d ≤ y) → replaced x (solved d x y) D i ≡ dataStep d x y D i
+  one-first hx alone =
       ⊎-elim (λ e. replaced-here x (solved d x y) D i e ∙ sym (data-first d x y D i (omega arith) e))
-      (λ ne. replaced-other x (solved d x y) D i ne ∙ sym (others ne)) (same-or-not i x)
-    where
-      others : i ≢ x → dataStep d x y D i ≡ D i
-      others ne =
-          ⊎-elim (λ l. data-other d x y D i ne (⊎-elim (λ e f. ne (f ∙ sym e)) (λ h f. omega arith) alone))
-          (λ h. parity-is d x y D i h) (less-or-not i d)
+      (λ ne. replaced-other x (solved d x y) D i ne ∙ sym (data-kept d x y D i (λ l. (ne, ⊎-elim (λ e f. ne (f ∙ sym e)) (λ h f. omega arith) alone)))) (same-or-not i x)
 
-  one-second : d ≤ x → y < d → (i : ℕ) → replaced y (solved d y x) D i ≡ dataStep d x y D i
-  one-second hx hy i =
+  one-second : d ≤ x → y < d → replaced y (solved d y x) D i ≡ dataStep d x y D i
+  one-second hx hy =
       ⊎-elim (λ e. replaced-here y (solved d y x) D i e ∙ sym (data-second d x y D i (omega arith) (λ f. omega arith) e))
-      (λ nf. replaced-other y (solved d y x) D i nf ∙ sym (others nf)) (same-or-not i y)
-    where
-      others : i ≢ y → dataStep d x y D i ≡ D i
-      others nf = ⊎-elim (λ l. data-other d x y D i (λ f. omega arith) nf) (λ h. parity-is d x y D i h) (less-or-not i d)
+      (λ nf. replaced-other y (solved d y x) D i nf ∙ sym (data-kept d x y D i (λ l. ((λ f. omega arith), nf)))) (same-or-not i y)
 
-  none-data : d ≤ x → d ≤ y → (i : ℕ) → dataStep d x y D i ≡ D i
-  none-data hx hy i = ⊎-elim (λ l. data-other d x y D i (λ f. omega arith) (λ f. omega arith)) (λ h. parity-is d x y D i h) (less-or-not i d)
+  none-data : d ≤ x → d ≤ y → dataStep d x y D i ≡ D i
+  none-data hx hy = data-kept d x y D i (λ l. ((λ f. omega arith), (λ f. omega arith)))
 
 -- both are data: y gets the sum of both, x comes from Q's sum in which that stands for y, and y is the rest
 module _ (d x y : ℕ) (D : ℕ → ℕ) (hd : d ≤ 16) (byte : D d < 256) (hx : x < d) (hy : y < d) (ne : x ≢ y) where
@@ -158,16 +151,16 @@ module _ (d x y : ℕ) (D : ℕ → ℕ) (hd : d ≤ 16) (byte : D d < 256) (hx 
   unfolding split
   split-other i nx = replaced-other x (ofSum d x y) summed i nx
 
-  two-data : (i : ℕ) → replaced y (both x y) (replaced x (ofSum d x y) (replaced y (restP d x y) D)) i ≡ dataStep d x y D i
+  two-data : (i : ℕ) → replaced y (sumOf x y) (replaced x (ofSum d x y) (replaced y (restP d x y) D)) i ≡ dataStep d x y D i
   unfolding summed split
   two-data i =
       ⊎-elim
-      (λ e. replaced-here y (both x y) split i e
-      ∙ unfold both in (ap₂ bitXor split-here (split-other y (λ f. ne (sym f)) ∙ summed-here) ∙ second-of-two d x y D hd hx hy ne byte)
+      (λ e. replaced-here y (sumOf x y) split i e
+      ∙ unfold sumOf in (ap₂ bitXor split-here (split-other y (λ f. ne (sym f)) ∙ summed-here) ∙ second-of-two d x y D hd hx hy ne byte)
       ∙ sym (data-second d x y D i (omega arith) (λ f. ne (sym f ∙ e)) e))
-      (λ nf. replaced-other y (both x y) split i nf
+      (λ nf. replaced-other y (sumOf x y) split i nf
       ∙ ⊎-elim (λ e. ap split e ∙ split-here ∙ sym (data-first d x y D i (omega arith) e))
-      (λ nx. split-other i nx ∙ summed-other i nf ∙ sym (data-other d x y D i nx nf)) (same-or-not i x))
+      (λ nx. split-other i nx ∙ summed-other i nf ∙ sym (data-kept d x y D i (λ _. (nx, nf)))) (same-or-not i x))
       (same-or-not i y)
 
 -- ---- the step of the parity
@@ -273,7 +266,7 @@ module _ (d x y : ℕ) (D : ℕ → ℕ) (i : ℕ) where
   steps-recover h =
       ⊎-elim
       (λ n. named d x y (dataStep d x y D) i (test-true n) ∙ made-ext d (dataStep d x y D) (dataSolved d x y D) (data-is d x y D) i h ∙ sym (recovered-named n))
-      (λ n. not-named d x y (dataStep d x y D) i (test-false n) ∙ data-other d x y D i (n .0) (n .1) ∙ sym (recovered-other d x y D i (n .0) (n .1)))
+      (λ n. not-named d x y (dataStep d x y D) i (test-false n) ∙ data-kept d x y D i (λ _. n) ∙ sym (recovered-other d x y D i (n .0) (n .1)))
       named-or-not
 
 -- ---- a block gathered in work and copied out
@@ -362,9 +355,9 @@ module _ (d b : ℕ) (l w ns : List ℕ) (ok : Workable d b l w ns) where
 
   -- x, which is v too, is in its place in m: y is the sum of both in m
   pub other-put : (x y : ℕ) (v m u n : List ℕ) → x < d → y < d → length v ≡ b → m ≡ put b x (block b 0 v) l → u ≡ gen b (plus (taken (getD ns y 0 * b) (m ++ [])) v)
-      → n ≡ put b y (block b 0 u) m → n ≡ eachColumn (replaced y (both x y)) d b m
+      → n ≡ put b y (block b 0 u) m → n ≡ eachColumn (replaced y (sumOf x y)) d b m
   other-put x y v m u n hx hy lv em eu en =
-      column-put (both x y) d b y ns m u n (λ D E e. unfold both in ap₂ bitXor (e x (omega arith)) (e y (omega arith))) m-long (ok .table) (omega arith) (eu ∙ same) en
+      column-put (sumOf x y) d b y ns m u n (λ D E e. unfold sumOf in ap₂ bitXor (e x (omega arith)) (e y (omega arith))) m-long (ok .table) (omega arith) (eu ∙ same) en
     where
       x-fits : x * b + b ≤ length l
       x-fits = fits x (d + 2) b l stripe-long (omega arith)
@@ -380,9 +373,9 @@ module _ (d b : ℕ) (l w ns : List ℕ) (ok : Workable d b l w ns) where
           sym (getD-put-in b x l x-fits v lv j q) ∙ ap (λ (k : List ℕ). getD k (x * b + j) 0) (sym m-is)
           ∙ ap₂ (λ (k : List ℕ) (i : ℕ). getD k (i * b + j) 0) (sym (append-nil m)) (sym (ok .table x (omega arith) ∙ in-order x)))
 
-      same : gen b (plus (taken (getD ns y 0 * b) (m ++ [])) v) ≡ gen b (byColumn (both x y) (numbered ns) b (m ++ []))
-      same = unfold plus taken byColumn both in (
-          gen-ext b (plus (taken (getD ns y 0 * b) (m ++ [])) v) (byColumn (both x y) (numbered ns) b (m ++ []))
+      same : gen b (plus (taken (getD ns y 0 * b) (m ++ [])) v) ≡ gen b (byColumn (sumOf x y) (numbered ns) b (m ++ []))
+      same = unfold plus taken byColumn sumOf in (
+          gen-ext b (plus (taken (getD ns y 0 * b) (m ++ [])) v) (byColumn (sumOf x y) (numbered ns) b (m ++ []))
           (λ j q. ap₂ bitXor (cell j q) (unfold columnAt byteOf numbered in refl)))
 
 -- the same arguments after a step, which keeps all lengths
@@ -397,26 +390,26 @@ in-a-row f g d b l m n em en = en ∙ ap (eachColumn g d b) em
 -- the stripe after the step of the data: two blocks of it missing, one, none
 module _ (d b x y : ℕ) (l : List ℕ) where
   pub data-two : (m n : List ℕ) → d ≤ 16 → ((j : ℕ) → j < b → byteOf b l d j < 256) → x < d → y < d → x ≢ y
-      → m ≡ eachColumn (replaced y (restP d x y)) d b l → n ≡ eachColumn (replaced y (both x y)) d b (eachColumn (replaced x (ofSum d x y)) d b m)
+      → m ≡ eachColumn (replaced y (restP d x y)) d b l → n ≡ eachColumn (replaced y (sumOf x y)) d b (eachColumn (replaced x (ofSum d x y)) d b m)
       → n ≡ eachColumn (dataStep d x y) d b l
   data-two m n hd bytes hx hy ne em en =
-      en ∙ ap (λ (k : List ℕ). eachColumn (replaced y (both x y)) d b (eachColumn (replaced x (ofSum d x y)) d b k)) em
-      ∙ ap (eachColumn (replaced y (both x y)) d b) (changed-twice (replaced y (restP d x y)) (replaced x (ofSum d x y)) d b l (local-replaced d x (ofSum d x y) (of-sum-local d x y hx)))
-      ∙ changed-twice (λ D. replaced x (ofSum d x y) (replaced y (restP d x y) D)) (replaced y (both x y)) d b l
-      (local-replaced d y (both x y) (λ D E e. unfold both in ap₂ bitXor (e x (omega arith)) (e y (omega arith))))
-      ∙ changed-ext (λ D. replaced y (both x y) (replaced x (ofSum d x y) (replaced y (restP d x y) D))) (dataStep d x y) d b l
+      en ∙ ap (λ (k : List ℕ). eachColumn (replaced y (sumOf x y)) d b (eachColumn (replaced x (ofSum d x y)) d b k)) em
+      ∙ ap (eachColumn (replaced y (sumOf x y)) d b) (changed-twice (replaced y (restP d x y)) (replaced x (ofSum d x y)) d b l (local-replaced d x (ofSum d x y) (of-sum-local d x y hx)))
+      ∙ changed-twice (λ D. replaced x (ofSum d x y) (replaced y (restP d x y) D)) (replaced y (sumOf x y)) d b l
+      (local-replaced d y (sumOf x y) (λ D E e. unfold sumOf in ap₂ bitXor (e x (omega arith)) (e y (omega arith))))
+      ∙ changed-ext (λ D. replaced y (sumOf x y) (replaced x (ofSum d x y) (replaced y (restP d x y) D))) (dataStep d x y) d b l
       (λ j i q p. two-data d x y (λ k. byteOf b l k j) hd (bytes j q) hx hy ne i)
 
   pub data-one : (n : List ℕ) → x < d → (x ≡ y) ⊎ (d ≤ y) → n ≡ eachColumn (replaced x (solved d x y)) d b l → n ≡ eachColumn (dataStep d x y) d b l
   data-one n hx alone en =
-      en ∙ changed-ext (replaced x (solved d x y)) (dataStep d x y) d b l (λ j i q p. one-first d x y (λ k. byteOf b l k j) hx alone i)
+      en ∙ changed-ext (replaced x (solved d x y)) (dataStep d x y) d b l (λ j i q p. one-first d x y (λ k. byteOf b l k j) i hx alone)
 
   pub data-one-second : (n : List ℕ) → d ≤ x → y < d → n ≡ eachColumn (replaced y (solved d y x)) d b l → n ≡ eachColumn (dataStep d x y) d b l
   data-one-second n hx hy en =
-      en ∙ changed-ext (replaced y (solved d y x)) (dataStep d x y) d b l (λ j i q p. one-second d x y (λ k. byteOf b l k j) hx hy i)
+      en ∙ changed-ext (replaced y (solved d y x)) (dataStep d x y) d b l (λ j i q p. one-second d x y (λ k. byteOf b l k j) i hx hy)
 
   pub data-none : length l ≡ (d + 2) * b → d ≤ x → d ≤ y → l ≡ eachColumn (dataStep d x y) d b l
-  data-none len hx hy = unchanged (dataStep d x y) d b l len (λ j i q p. none-data d x y (λ k. byteOf b l k j) hx hy i)
+  data-none len hx hy = unchanged (dataStep d x y) d b l len (λ j i q p. none-data d x y (λ k. byteOf b l k j) i hx hy)
 
 -- the stripe after the step of the parity: P and Q named, one of them, none
 module _ (d b x y : ℕ) (l : List ℕ) (len : length l ≡ (d + 2) * b) where

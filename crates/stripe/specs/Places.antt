@@ -25,8 +25,8 @@ unfoldable pub numbered : List ℕ → ℕ → ℕ
 numbered ns i = getD ns i 0
 
 -- the offset of role i's block of b bytes, from a table of block numbers
-unfoldable pub firstByte : List ℕ → ℕ → ℕ → ℕ
-firstByte ns b i = getD ns i 0 * b
+unfoldable pub offsetOf : List ℕ → ℕ → ℕ → ℕ
+offsetOf ns b i = getD ns i 0 * b
 
 -- column j of the stripe whose role i is block number (at i) of a buffer
 unfoldable pub columnAt : (ℕ → ℕ) → ℕ → List ℕ → ℕ → ℕ → ℕ

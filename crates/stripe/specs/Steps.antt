@@ -141,8 +141,8 @@ unfoldable pub replaced : ℕ → ((ℕ → ℕ) → ℕ) → (ℕ → ℕ) → 
 replaced m h D i = pick (eqb i m) (h D) (D i)
 
 -- the sum of roles x and y
-unfoldable pub both : ℕ → ℕ → (ℕ → ℕ) → ℕ
-both x y D = bitXor (D x) (D y)
+unfoldable pub sumOf : ℕ → ℕ → (ℕ → ℕ) → ℕ
+sumOf x y D = bitXor (D x) (D y)
 
 -- the two steps: x and y recovered where they are data; P and Q made of the data, each where x or y is it
 unfoldable pub dataStep : ℕ → ℕ → ℕ → (ℕ → ℕ) → ℕ → ℕ

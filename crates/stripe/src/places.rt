@@ -1,7 +1,7 @@
 // Where the blocks of a stripe stand in an array kept by member.
 ghost use mathlib.Core.Path.{_≡_};
 ghost use Prim.Native.Nat.{_+_, _*_, _≤_, _<_};
-ghost use Rattle.stripe.specs.Places.{memberOf, inOrder, place, firstByte, Tabled, Held};
+ghost use Rattle.stripe.specs.Places.{memberOf, inOrder, place, offsetOf, Tabled, Held};
 
 // The member that has role i in stripe s: the layout.
 pub fn member(d: usize, s: usize, i: usize) -> usize
@@ -53,7 +53,7 @@ pub fn block_numbers(d: usize, stripes: usize, s: usize) -> [usize; 18]
 // below 2 to the 64th.
 pub fn block_starts(ns: &[usize], n: usize, b: usize) -> [usize; 18]
     requires { ⌜ (n ≤ 18) × Held n b 18446744073709551615 (now ns) ⌝ }
-    ensures { λ r. ⌜ Tabled n (firstByte (now (ns .entry)) b) r ⌝ }
+    ensures { λ r. ⌜ Tabled n (offsetOf (now (ns .entry)) b) r ⌝ }
 {
     let mut starts = [0usize; 18];
     let mut i: usize = 0;

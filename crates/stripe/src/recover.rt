@@ -14,7 +14,7 @@ ghost use lib.Dec.{eqb};
 ghost use lib.ListN.{length};
 ghost use Rattle.stripe.specs.Parity.{parityP, parityQ, restP, solved, recovered};
 ghost use Rattle.stripe.specs.Places.{Whole};
-ghost use Rattle.stripe.specs.Steps.{Workable, replaced, dataStep, both, ofSum, parityStep};
+ghost use Rattle.stripe.specs.Steps.{Workable, replaced, sumOf, dataStep, ofSum, parityStep};
 ghost use Rattle.stripe.specs.Calls.{eachColumn};
 
 // Recovers the members x and y of the stripe.
@@ -156,7 +156,7 @@ fn split_sum(
     y: usize,
 )
     requires { ⌜ Workable d b (now stripe) (now work) (now ns) × ((x < d) × ((y < d) × (x ≡ y → ⊥))) ⌝ }
-    ensures { λ _. ⌜ now (stripe .exit) ≡ eachColumn (replaced y (both x y)) d b (eachColumn (replaced x (ofSum d x y)) d b (now (stripe .entry))) ⌝ }
+    ensures { λ _. ⌜ now (stripe .exit) ≡ eachColumn (replaced y (sumOf x y)) d b (eachColumn (replaced x (ofSum d x y)) d b (now (stripe .entry))) ⌝ }
 {
     let none = [0u8; 0];
     solve::solve_of_sum(stripe, &none, d + 2, ns, work, d, b, x, y);

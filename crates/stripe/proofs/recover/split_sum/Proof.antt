@@ -6,7 +6,7 @@ use Prim.Native.Nat.{_+_}
 use native.Mathlib.Omega.{arith}
 use lib.ListN.{length}
 use borrow.Author.Needs.{needs}
-use Rattle.stripe.specs.Steps.{replaced, both, Workable, Gathers, ofSum}
+use Rattle.stripe.specs.Steps.{replaced, sumOf, Workable, Gathers, ofSum}
 use Rattle.stripe.proofs.RecoverLaws.{stripe-long, gathers, of-sum-put, other-put, workable-after, in-a-row}
 use Rattle.stripe.proofs.BlockLaws.{fits}
 use Rattle.stripe.proofs.recover.split_sum.Statement.{statement}
@@ -77,7 +77,7 @@ returns c =
     let a = start .args in
     let ok = start .pre .0 in
     let len : length (c .before .before .before .before .before .before .before .before .before .before .before .before .before .before .before .before .before .before .before .solve-of-sum .last .1 .1 .1 .1 .0) ≡ a .b = c .before .before .before .before .before .before .before .before .before .before .before .before .before .before .before .before .before .before .work .given ∙ ok .working in
-    in-a-row (replaced (a .x) (ofSum (a .d) (a .x) (a .y))) (replaced (a .y) (both (a .x) (a .y))) (a .d) (a .b) (a .stripe .now) _ _
+    in-a-row (replaced (a .x) (ofSum (a .d) (a .x) (a .y))) (replaced (a .y) (sumOf (a .x) (a .y))) (a .d) (a .b) (a .stripe .now) _ _
     (of-sum-put (a .d) (a .b) (a .stripe .now) (a .work .now) (a .ns .now) ok (a .x) (a .y) _ _ (start .pre .1 .0) (c .before .before .before .before .before .before .before .before .before .before .before .before .before .before .before .before .before .before .before .solve-of-sum .ensures) (c .before .before .before .before .before .before .before .before .before .before .before .before .before .before .copy-block .ensures))
     (other-put (a .d) (a .b) (a .stripe .now) (a .work .now) (a .ns .now) ok (a .x) (a .y) _ _ _ _ (start .pre .1 .0) (start .pre .1 .1 .0) len (c .before .before .before .before .before .before .before .before .before .before .before .before .before .before .copy-block .ensures) (c .before .before .before .before .before .before .before .add-block .ensures) (c .before .before .copy-block2 .ensures))
 
