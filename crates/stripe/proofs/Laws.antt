@@ -9,10 +9,10 @@ pub use Rattle.stripe.proofs.StripeTheorems.{length-changed, byte-chang
 -- log record's; a block recovered is the one that was lost.
 pub use Rattle.stripe.proofs.ArrayTheorems.{made-length, made-others, made-in-p, made-in-q, made-array-obeys, all-length, all-others, all-data, all-obey, array-byte, log-byte, solved-block}
 -- The layout maps roles to members one to one, and each role of each stripe has a block of its own.
-pub use Rattle.stripe.proofs.PlaceLaws.{member-lt, member-inj, place-lt, place-inj, place-other}
+pub use Rattle.stripe.proofs.PlaceLaws.{member-lt, member-inj, member-onto, place-lt, place-inj, place-other}
 -- One column: parity is a byte, zeros obey, the sums see what they should; the order of the two missing roles does not matter.
-pub use Rattle.stripe.proofs.ColumnLaws.{parityP-ext, parityQ-ext, parityP-byte, parityQ-byte, zeros-obey, obeys-ext, made-obeys, solved-exact, solved-ignores, solved-byte, recovered-exact, recovered-other, recovered-swap}
+pub use Rattle.stripe.proofs.ColumnLaws.{parityP-ext, parityQ-ext, parityP-byte, parityQ-byte, zeros-obey, obeys-ext, made-data, made-p, made-q, made-obeys, solved-exact, solved-ignores, solved-byte, recovered-exact, recovered-other, recovered-swap}
 -- Blocks of a buffer: what stands where after a block is put in, and when two buffers are one.
-pub use Rattle.stripe.proofs.BlockLaws.{fits, length-block, length-put, getD-block, put-block, block-put-same, block-put-other, ext-block, ext-bytes}
+pub use Rattle.stripe.proofs.BlockLaws.{fits, length-block, length-put, getD-block, put-block, block-put-same, block-put-other, ext-block, ext-bytes, length-blocksOf, byteOf-blocksOf}
 -- A list given by its elements.
 pub use Rattle.stripe.proofs.Lists.{length-gen, getD-gen, gen-of, gen-ext}

@@ -2,7 +2,7 @@
 -- Assumes nothing.
 use mathlib.Core.List.{List}
 use mathlib.Core.Logic.{⊎-elim, _≢_}
-use mathlib.Core.Path.{_≡_, sym, ap, ap₂, _∙_, subst}
+use mathlib.Core.Path.{_≡_, refl, sym, ap, ap₂, _∙_, subst}
 use Prim.Native.Nat.{ℕ, _+_, _*_, _≤_, _<_}
 use native.Mathlib.Nat.{mul-le-mul-right}
 use native.Mathlib.Omega.{arith}
@@ -22,6 +22,10 @@ member-lt d s i h = h
 pub member-inj : (d s i k : ℕ) → i < d + 2 → k < d + 2 → memberOf d s i ≡ memberOf d s k → i ≡ k
 unfolding memberOf
 member-inj d s i k h l e = e
+
+pub member-onto : (d s m : ℕ) → m < d + 2 → (i : ℕ) × (i < d + 2) × (memberOf d s i ≡ m)
+unfolding memberOf
+member-onto d s m h = (m, h, refl)
 
 -- a member and a stripe are told by the block number
 pub pair-inj : (S m k s t : ℕ) → s < S → t < S → m * S + s ≡ k * S + t → (m ≡ k) × (s ≡ t)

@@ -1,0 +1,262 @@
+-- The marked examples K1 to K13 and the printed session of the bench program, proved from the definitions by computation: one statement ranges over
+-- the list of the examples, and one over the list of the printed lines. Then the session's shelf as bytes: what format leaves, the layout of array,
+-- log and list, and the numbers 1 to 3.
+-- Assumes nothing.
+use mathlib.Core.Bool.{false}
+use mathlib.Core.List.{List, [], _∷_}
+use mathlib.Core.Path.{_≡_, refl}
+use Prim.Native.Nat.{ℕ, _/_, _%_}
+use lib.Dec.{eqb}
+use lib.ListN.{length, getD, replicate}
+use Rattle.field.specs.Field.{double, pow2, timesLow, times, raised, inverse}
+use Rattle.stripe.specs.Blocks.{from, gen, block, byteOf, blocksOf}
+use Rattle.stripe.specs.Parity.{pick, sum, one, weight, parityP, parityQ, without, restP, restQ, fromP, fromQ, fromBoth, solved, dataSolved, recovered}
+use Rattle.stripe.specs.Parity as parity
+use Rattle.stripe.specs.Places.{memberOf, place}
+use Rattle.stripe.specs.Calls.{changed, eachColumn, badMeasures, badLength, badMember, accepted, makeCode, makeBuffer, recoverCode, recoverBuffer}
+use Rattle.shelf.specs.Counting.{choose, bit, count, total, any, first, lesser, setAt}
+use Rattle.shelf.specs.Members.{logMember, roleP, roleQ, memberAt, addressOf, blank, blockP, blockQ, otherMissing, workedBack, stripeOf, indexOf}
+use Rattle.shelf.specs.State.{State, isSome, listed, marksIn, freshState}
+use Rattle.shelf.specs.Status.{Call, start, fail, write, read, resync, rebuild, newLog, fullResync, row, codeOf}
+use Rattle.shelf.specs.Calls.{settled, made, remade, reconstructs, appendOne, append, logged, writeStripe, written, writeTo, blockAt, resynced, rebuilt, work, code, after}
+use Rattle.shelf.specs.Words.{words, bytesOf}
+use Rattle.shelf.specs.HashList.{noneWord, seek, lookup, isRecord, allListed, goodEntry, goodStripe, good, follow, slots, counted, passes, valid, said}
+use Rattle.shelf.specs.Lent.{lent, flagAt, recordAt, stateOf, badRecord, badLengths, triesList, inputRows, numberOf, flagsFrom, recordOf, roleOf, arrayOf, logOf, readBuffer, formatCode, formatted}
+use Rattle.shelf.specs.Lent as rows
+use Rattle.shelf.specs.Book.{Book, freshBook, closed, marked, usedThen, markStripe, markTo, bookWork, bookCode, bookAfter}
+use Rattle.shelf.specs.declared.record.Geometry.{Geometry}
+use Rattle.shelf.specs.declared.record.Shelf.{Shelf}
+
+-- what is computed, and what it must be
+pub record Example : Type 0 where
+  pub got : List ℕ
+  pub want : List ℕ
+
+abbrev pub ex : List ℕ → List ℕ → Example
+ex g w = record { got = g; want = w }
+
+abbrev pub Holds : List Example → Type 0
+Holds [] = Unit {0}
+Holds (e ∷ es) = (e .got ≡ e .want) × Holds es
+
+-- a shelf of d data disks and two stripes: blocks of one byte, a log of four records, a list of two slots and four places
+abbrev pub small : ℕ → Geometry
+small d = record { d = d; s = 2; b = 1; l = 4; h = 2; e = 4 }
+
+-- what calls leave, one after another
+unfoldable pub afterAll : Geometry → List Call → State → State
+afterAll g [] s = s
+afterAll g (c ∷ cs) s = afterAll g cs (after g c s)
+
+-- the bytes of failed members changed at will: a failed disk holds 99 in each block, a failed log 77
+abbrev pub gone : Geometry → State → State
+gone g s =
+    record {
+      disk = λ x i. choose (s .failed (memberAt g x i)) (99 ∷ []) (s .disk x i);
+      p = λ x. choose (s .failed (memberAt g x (roleP g))) (99 ∷ []) (s .p x);
+      q = λ x. choose (s .failed (memberAt g x (roleQ g))) (99 ∷ []) (s .q x);
+      log =
+          record {
+            value = λ r. choose (s .failed (logMember g)) (77 ∷ []) (s .log .value r);
+            next = s .log .next;
+            ori = s .log .ori;
+            cur = s .log .cur;
+          };
+      mode = s .mode;
+      failed = s .failed;
+    }
+
+-- K8 and K9 begin with K4's stripe, and block 1 is logged as 7
+abbrev pub k4 : State
+k4 = afterAll (small 3) (write 0 3 (1 ∷ 2 ∷ 3 ∷ []) ∷ start ∷ write 1 1 (7 ∷ []) ∷ []) (freshState (small 3))
+
+abbrev pub k8 : State
+k8 = gone (small 3) (afterAll (small 3) (fail 0 ∷ fail 1 ∷ []) k4)
+
+abbrev pub k9 : State
+k9 = gone (small 3) (afterAll (small 3) (fail 5 ∷ fail 0 ∷ []) k4)
+
+-- K12 and K13: n blocks from address 0 on written to an unlisted stripe of d data disks: whether it is reconstruction-write, the records used and the
+-- blocks listed
+abbrev pub loggedBy : ℕ → ℕ → List ℕ → List ℕ
+loggedBy d n v =
+    let s = afterAll (small d) (start ∷ write 0 n v ∷ []) (freshState (small d)) in
+    bit (reconstructs d (written (small d) 0 n 0) (λ _. false)) ∷ s .log .next ∷ marksIn (small d) (listed (s .log)) ∷ []
+
+abbrev pub examples : List Example
+examples =
+    -- K1 to K3: 2 times 128, 2 to the 15th, 2 times 142
+    ex (times 2 128 ∷ []) (29 ∷ []) ∷
+    ex (pow2 15 ∷ []) (38 ∷ []) ∷
+    ex (times 2 142 ∷ []) (1 ∷ []) ∷
+    -- K4 to K7: stripes of one-byte blocks, data, P and Q; 77 and 88 are bytes of no meaning
+    ex (makeBuffer 3 1 (1 ∷ 2 ∷ 3 ∷ 77 ∷ 88 ∷ [])) (1 ∷ 2 ∷ 3 ∷ 0 ∷ 9 ∷ []) ∷
+    ex (recoverBuffer 3 1 0 1 (77 ∷ 88 ∷ 3 ∷ 0 ∷ 9 ∷ [])) (1 ∷ 2 ∷ 3 ∷ 0 ∷ 9 ∷ []) ∷
+    ex (makeBuffer 2 1 (128 ∷ 128 ∷ 77 ∷ 88 ∷ [])) (128 ∷ 128 ∷ 0 ∷ 157 ∷ []) ∷
+    ex (recoverBuffer 2 1 0 2 (77 ∷ 128 ∷ 88 ∷ 157 ∷ [])) (128 ∷ 128 ∷ 0 ∷ 157 ∷ []) ∷
+    -- K8: the number of a read of blocks 0 and 1, and what it gives
+    ex (code (small 3) (read 0 2 2) k8 ∷ readBuffer (small 3) k8 0 2) (0 ∷ 1 ∷ 7 ∷ []) ∷
+    -- K9: the numbers of reads of block 0 and of block 2, and what the latter gives
+    ex (code (small 3) (read 0 1 1) k9 ∷ code (small 3) (read 2 1 1) k9 ∷ readBuffer (small 3) k9 2 1) (14 ∷ 0 ∷ 3 ∷ []) ∷
+    -- K10: the stripe and data index of address 4, the stripe and data index where a write to it stores, and the address there
+    ex (stripeOf (small 3) 4 ∷ indexOf (small 3) 4 ∷ first 2 (λ x. any 3 (written (small 3) 4 1 x)) ∷ first 3 (written (small 3) 4 1 1) ∷ addressOf (small 3) 1 1 ∷ [])
+    (1 ∷ 1 ∷ 1 ∷ 1 ∷ 4 ∷ []) ∷
+    -- K11: reads of addresses 5 and 6, and writes
+    ex
+    (code (small 3) (read 5 1 1) (freshState (small 3)) ∷ code (small 3) (read 6 1 1) (freshState (small 3))
+    ∷ code (small 3) (write 5 1 (7 ∷ [])) (freshState (small 3)) ∷ code (small 3) (write 6 1 (7 ∷ [])) (freshState (small 3)) ∷ [])
+    (0 ∷ 4 ∷ 0 ∷ 4 ∷ []) ∷
+    -- K12: reconstruction-write, 3 records, 3 listed
+    ex (loggedBy 3 2 (5 ∷ 6 ∷ [])) (1 ∷ 3 ∷ 3 ∷ []) ∷
+    -- K13: read-modify-write, 2 records, 1 listed
+    ex (loggedBy 2 1 (5 ∷ [])) (0 ∷ 2 ∷ 1 ∷ []) ∷
+    []
+
+pub all-hold : Holds examples
+unfolding badMeasures badLength badMember makeCode recoverCode accepted makeBuffer recoverBuffer double pow2 timesLow times raised inverse from gen block byteOf blocksOf changed eachColumn pick sum one weight parityP parityQ parity.made without restP restQ fromP fromQ fromBoth solved dataSolved recovered memberOf choose bit count total any first lesser setAt blank blockP blockQ otherMissing workedBack isSome freshState row codeOf settled made remade appendOne append logged writeStripe writeTo blockAt resynced rebuilt work after afterAll readBuffer
+all-hold = (refl, (refl, (refl, (refl, (refl, (refl, (refl, (refl, (refl, (refl, (refl, (refl, (refl, tt)))))))))))))
+
+-- ---- the printed session
+
+-- a line of the session: the call, its code, mode, listed and next after it, and the first byte read (0 if none)
+pub record Line : Type 0 where
+  pub call : Call
+  pub code : ℕ
+  pub mode : ℕ
+  pub listed : ℕ
+  pub next : ℕ
+  pub first : ℕ
+
+abbrev pub line : Call → ℕ → ℕ → ℕ → ℕ → ℕ → Line
+line c n m k x y = record { call = c; code = n; mode = m; listed = k; next = x; first = y }
+
+abbrev pub printed : List Line
+printed =
+    line start 0 1 0 0 0 ∷
+    line (write 1 1 (7 ∷ [])) 0 1 1 2 0 ∷
+    line (fail 0) 0 1 1 2 0 ∷
+    line (fail 1) 0 1 1 2 0 ∷
+    line (read 1 1 1) 0 1 1 2 7 ∷
+    line rebuild 0 1 1 2 0 ∷
+    line (write 1 1 (9 ∷ [])) 0 1 1 3 0 ∷
+    line (write 4 1 (5 ∷ [])) 0 1 1 3 0 ∷
+    line resync 0 0 0 0 0 ∷
+    line (fail 6) 6 0 0 0 0 ∷
+    []
+
+-- the first byte that a call with this code hands over, where a read of n blocks from address a on gives the bytes (bytes a n)
+unfoldable pub firstByte : Call → ℕ → (ℕ → ℕ → List ℕ) → ℕ
+firstByte start n bytes = 0
+firstByte (fail j) n bytes = 0
+firstByte (write a k v) n bytes = 0
+firstByte (read a k len) n bytes = choose (eqb n 0) (getD (bytes a k) 0 0) 0
+firstByte resync n bytes = 0
+firstByte rebuild n bytes = 0
+firstByte newLog n bytes = 0
+firstByte fullResync n bytes = 0
+
+-- the lines with their numbers worked out by a shelf in state s; after each call the bytes of failed members change
+unfoldable pub byShelf : Geometry → List Line → State → List Line
+byShelf g [] s = []
+byShelf g (l ∷ ls) s =
+    let c = l .call in
+    let t = after g c s in
+    line c (code g c s) (t .mode) (marksIn g (listed (t .log))) (t .log .next) (firstByte c (code g c s) (readBuffer g s))
+    ∷ byShelf g ls (gone g t)
+
+-- and by a book: marks for listed, u for next, and the block held for the one read
+unfoldable pub byBook : Geometry → List Line → Book → List Line
+byBook g [] b = []
+byBook g (l ∷ ls) b =
+    let c = l .call in
+    let t = bookAfter g c b in
+    line c (bookCode g c b) (t .state .mode) (marksIn g (t .state .marks)) (t .state .used)
+    (firstByte c (bookCode g c b) (λ a _. b .held (a / g .d) (a % g .d)))
+    ∷ byBook g ls t
+
+-- shelf and book both give the lines as they are printed
+pub as-printed : (byShelf (small 3) printed (freshState (small 3)) ≡ printed) × (byBook (small 3) printed (freshBook (small 3)) ≡ printed)
+unfolding double pow2 timesLow times raised inverse from gen block blocksOf pick sum one weight parityP parityQ without restP restQ fromP fromQ fromBoth solved memberOf choose bit count total any first lesser setAt blank blockP blockQ otherMissing workedBack isSome freshState row codeOf settled made remade appendOne append logged writeStripe writeTo blockAt resynced rebuilt work after readBuffer freshBook closed marked usedThen markStripe markTo bookWork bookAfter firstByte byShelf byBook
+as-printed = (refl, refl)
+
+-- ---- the session's shelf as bytes
+
+-- a record of this mode, next and listed, with no member failed
+abbrev pub recordWith : ℕ → ℕ → ℕ → Shelf
+recordWith m x k = record { geometry = small 3; mode = m; next = x; listed = k; failed = replicate 19 false }
+
+-- a list with one block listed: in slot 1, place 0 has these four words; slot 0 and the other places have none
+abbrev pub oneListed : ℕ → ℕ → ℕ → ℕ → List ℕ
+oneListed a o c x = bytesOf (noneWord ∷ 0 ∷ a ∷ o ∷ c ∷ x ∷ replicate 12 noneWord)
+
+-- the session's array and log after the write: members one after another, two blocks each; the original of block 1, then its latest value
+abbrev pub array : List ℕ
+array = 0 ∷ 0 ∷ 7 ∷ 0 ∷ 0 ∷ 0 ∷ 0 ∷ 0 ∷ 0 ∷ 0 ∷ []
+
+abbrev pub logBytes : List ℕ
+logBytes = 0 ∷ 7 ∷ 0 ∷ 0 ∷ []
+
+-- the number of a read of address 1, by this record and list
+abbrev pub readNumber : Shelf → List ℕ → ℕ
+readNumber r l = numberOf r 10 4 l (read 1 1 1)
+
+abbrev pub afterWrite : State
+afterWrite = afterAll (small 3) (start ∷ write 1 1 (7 ∷ []) ∷ []) (freshState (small 3))
+
+-- K12's list: blocks 0 and 1 have Cur 1 and 2, block 2 has Ori 0. Slot 0 has blocks 0 and 2, slot 1 block 1; from block 0's place the chain goes on to
+-- place x
+abbrev pub k12List : ℕ → List ℕ
+k12List x =
+    bytesOf (0 ∷ 1 ∷ 0 ∷ noneWord ∷ 1 ∷ x ∷ 1 ∷ noneWord ∷ 2 ∷ noneWord ∷ 2 ∷ 0 ∷ noneWord ∷ noneWord ∷ replicate 4 noneWord)
+
+-- block 1 listed twice
+abbrev pub twiceListed : List ℕ
+twiceListed = bytesOf (noneWord ∷ 0 ∷ 1 ∷ 0 ∷ 1 ∷ 1 ∷ 1 ∷ 0 ∷ 1 ∷ noneWord ∷ replicate 8 noneWord)
+
+abbrev pub onBytes : List Example
+onBytes =
+    -- the line of format: its number, then mode, listed and next of what it leaves
+    (let s = stateOf (formatted (small 3)) in
+    ex (formatCode (small 3) 10 4 72 ∷ s .mode ∷ marksIn (small 3) (listed (s .log)) ∷ s .log .next ∷ 0 ∷ []) (0 ∷ 0 ∷ 0 ∷ 0 ∷ 0 ∷ [])) ∷
+    ex (formatted (small 3) .array) (replicate 10 0) ∷
+    ex (formatted (small 3) .log) (replicate 4 0) ∷
+    ex (formatted (small 3) .list) (replicate 72 255) ∷
+    -- the calls on what format leaves: start, a read, resync (7), rebuild and new log (12), full resync
+    (let h = formatted (small 3) in
+    let n = numberOf (h .shelf) (length (h .array)) (length (h .log)) (h .list) in
+    ex (n start ∷ n (read 5 1 1) ∷ n resync ∷ n rebuild ∷ n newLog ∷ n fullResync ∷ []) (0 ∷ 0 ∷ 7 ∷ 12 ∷ 12 ∷ 0 ∷ [])) ∷
+    -- after the write: array, log and record
+    ex (arrayOf (small 3) afterWrite) array ∷
+    ex (logOf (small 3) afterWrite) logBytes ∷
+    ex
+    (let r = recordOf (small 3) afterWrite in r .mode ∷ r .next ∷ r .listed ∷ count 19 (flagAt r) ∷ []) (1 ∷ 2 ∷ 1 ∷ 0 ∷ []) ∷
+    -- the list then: block 1 with Ori 0 and Cur 1 passes, and is what the bytes say
+    (let s = stateOf (lent (recordWith 1 2 1) array logBytes (oneListed 1 0 1 noneWord)) in
+    ex (readNumber (recordWith 1 2 1) (oneListed 1 0 1 noneWord) ∷ marksIn (small 3) (listed (s .log)) ∷ bit (listed (s .log) 0 1) ∷ readBuffer (small 3) s 1 1)
+    (0 ∷ 1 ∷ 1 ∷ 7 ∷ [])) ∷
+    -- number 1: mode above 2; next above l; listed 0 with next above 0; mode 0 with listed above 0
+    ex
+    (readNumber (recordWith 3 2 1) (oneListed 1 0 1 noneWord) ∷ readNumber (recordWith 1 5 1) (oneListed 1 0 1 noneWord)
+    ∷ readNumber (recordWith 1 2 0) (oneListed 1 0 1 noneWord) ∷ readNumber (recordWith 0 2 1) (oneListed 1 0 1 noneWord) ∷ [])
+    (1 ∷ 1 ∷ 1 ∷ 1 ∷ []) ∷
+    -- number 2: array, log and list one byte too long
+    ex
+    (numberOf (recordWith 1 2 1) 11 4 (oneListed 1 0 1 noneWord) start ∷ numberOf (recordWith 1 2 1) 10 5 (oneListed 1 0 1 noneWord) start
+    ∷ numberOf (recordWith 1 2 1) 10 4 (0 ∷ oneListed 1 0 1 noneWord) start ∷ [])
+    (2 ∷ 2 ∷ 2 ∷ []) ∷
+    -- number 3: the chain repeats its place; it leaves the list; more listed than the chains hold; address not below 6; in a wrong slot; Ori not below
+    -- next; Cur not below next; both none; Ori lacking where blocks of the stripe are unlisted; an address twice
+    ex
+    (readNumber (recordWith 1 2 1) (oneListed 1 0 1 0) ∷ readNumber (recordWith 1 2 1) (oneListed 1 0 1 4)
+    ∷ readNumber (recordWith 1 2 2) (oneListed 1 0 1 noneWord) ∷ readNumber (recordWith 1 2 1) (oneListed 7 0 1 noneWord)
+    ∷ readNumber (recordWith 1 2 1) (oneListed 2 0 1 noneWord) ∷ readNumber (recordWith 1 2 1) (oneListed 1 2 1 noneWord)
+    ∷ readNumber (recordWith 1 2 1) (oneListed 1 0 2 noneWord) ∷ readNumber (recordWith 1 2 1) (oneListed 1 noneWord noneWord noneWord)
+    ∷ readNumber (recordWith 1 2 1) (oneListed 1 noneWord 1 noneWord) ∷ readNumber (recordWith 1 2 2) twiceListed ∷ [])
+    (3 ∷ 3 ∷ 3 ∷ 3 ∷ 3 ∷ 3 ∷ 3 ∷ 3 ∷ 3 ∷ 3 ∷ []) ∷
+    -- K12's list passes; with the untouched block 2 left unlisted it does not
+    ex (readNumber (recordWith 1 3 3) (k12List 2) ∷ readNumber (recordWith 1 3 2) (k12List noneWord) ∷ []) (0 ∷ 3 ∷ []) ∷
+    []
+
+pub bytes-hold : Holds onBytes
+unfolding block byteOf from gen blocksOf memberOf place choose bit count total any first lesser setAt blank blockP blockQ otherMissing workedBack isSome freshState row codeOf settled made appendOne append logged writeStripe writeTo blockAt work after afterAll words bytesOf seek lookup isRecord allListed goodEntry goodStripe good follow slots counted passes valid said recordAt stateOf rows.badMeasures badRecord badLengths triesList inputRows numberOf flagsFrom roleOf arrayOf logOf readBuffer formatCode formatted
+bytes-hold = (refl, (refl, (refl, (refl, (refl, (refl, (refl, (refl, (refl, (refl, (refl, (refl, (refl, tt)))))))))))))

@@ -1,0 +1,173 @@
+-- Rows 1 to 3: what passing them says of the measures, the record, the lengths and the list; and rows in general, tried one after another.
+-- Assumes nothing.
+use mathlib.Core.Bool.{Bool, true, false, not, _||_}
+use mathlib.Core.List.{List}
+use mathlib.Core.Logic.{_≢_}
+use mathlib.Core.Path.{_≡_, refl, sym, ap, _∙_}
+use Prim.Native.Nat.{ℕ, _+_, _*_, _≤_}
+use native.Mathlib.Nat.{mul-le-mul}
+use native.Mathlib.Omega.{arith}
+use lib.Dec.{eqb, ltb}
+use lib.ListN.{length}
+use borrow.Author.Tests.{eqb-true, ltb-false}
+use Rattle.shelf.specs.Members.{InRange}
+use Rattle.shelf.specs.Status.{row}
+use Rattle.shelf.specs.Words.{words}
+use Rattle.shelf.specs.HashList.{Measures, valid}
+use Rattle.shelf.specs.Lent.{outside, badMeasures, badRecord, badLengths, badList, arrayLength, logLength, listLength, inputRows}
+use Rattle.shelf.specs.declared.record.Geometry.{Geometry}
+use Rattle.shelf.specs.declared.record.Shelf.{Shelf}
+use Rattle.shelf.proofs.CountLaws.{or-left, or-right}
+
+-- ---- rows
+
+-- a row that applies is answered, and one that does not is passed over
+pub row-hit : (n : ℕ) (t : Bool) (rest : ℕ) → t ≡ true → n ≡ row n t rest
+unfolding row
+row-hit n t rest e = sym (ap (λ (u : Bool). row n u rest) e)
+
+pub row-pass : (n : ℕ) (t : Bool) (rest m : ℕ) → t ≡ false → m ≡ rest → m ≡ row n t rest
+unfolding row
+row-pass n t rest m e q = q ∙ sym (ap (λ (u : Bool). row n u rest) e)
+
+pub row-zero : (n : ℕ) (t : Bool) (rest : ℕ) → n ≢ 0 → row n t rest ≡ 0 → (t ≡ false) × (rest ≡ 0)
+unfolding row
+row-zero n true rest z e = absurd (z e)
+row-zero n false rest z e = (refl, e)
+
+pub not-off : (t : Bool) → not t ≡ false → t ≡ true
+not-off true e = refl
+not-off false e = sym e
+
+-- ---- measures
+
+inside : (low high x : ℕ) → outside low high x ≡ false → (low ≤ x) × (x ≤ high)
+inside low high x e =
+    let a = ltb-false x low (or-left (ltb x low) (ltb high x) e) in
+    let b = ltb-false high x (or-right (ltb x low) (ltb high x) e) in
+    (omega arith, omega arith)
+
+pub in-range : (g : Geometry) → badMeasures g ≡ false → InRange g
+unfolding badMeasures
+in-range g bad =
+    let t6 : Bool = outside 1 4096 (g .e) in
+    let t5 : Bool = outside 1 256 (g .h) || t6 in
+    let t4 : Bool = outside 1 65536 (g .l) || t5 in
+    let t3 : Bool = outside 1 4096 (g .b) || t4 in
+    let t2 : Bool = outside 1 65536 (g .s) || t3 in
+    let e2 : t2 ≡ false = or-right (outside 2 16 (g .d)) t2 bad in
+    let e3 : t3 ≡ false = or-right (outside 1 65536 (g .s)) t3 e2 in
+    let e4 : t4 ≡ false = or-right (outside 1 4096 (g .b)) t4 e3 in
+    let e5 : t5 ≡ false = or-right (outside 1 65536 (g .l)) t5 e4 in
+    let d = inside 2 16 (g .d) (or-left (outside 2 16 (g .d)) t2 bad) in
+    let s = inside 1 65536 (g .s) (or-left (outside 1 65536 (g .s)) t3 e2) in
+    let b = inside 1 4096 (g .b) (or-left (outside 1 4096 (g .b)) t4 e3) in
+    let l = inside 1 65536 (g .l) (or-left (outside 1 65536 (g .l)) t5 e4) in
+    let h = inside 1 256 (g .h) (or-left (outside 1 256 (g .h)) t6 e5) in
+    let e = inside 1 4096 (g .e) (or-right (outside 1 256 (g .h)) t6 e5) in
+    record {
+      d-least = d .0;
+      d-most = d .1;
+      s-least = s .0;
+      s-most = s .1;
+      b-least = b .0;
+      b-most = b .1;
+      l-least = l .0;
+      l-most = l .1;
+      h-least = h .0;
+      h-most = h .1;
+      e-least = e .0;
+      e-most = e .1;
+    }
+
+-- products of measures in range are no large numbers
+pub array-small : (g : Geometry) → InRange g → ((g .d + 2) * g .s ≤ 1179648) × ((g .d + 2) * g .s * g .b ≤ 4831838208)
+array-small g Y =
+    let a : g .d + 2 ≤ 18 = omega (arith, Y .d-most) in
+    let b : (g .d + 2) * g .s ≤ 18 * 65536 = mul-le-mul a (Y .s-most) in
+    let c : (g .d + 2) * g .s * g .b ≤ 18 * 65536 * 4096 = mul-le-mul b (Y .b-most) in
+    (omega arith, omega arith)
+
+pub log-small : (g : Geometry) → InRange g → g .l * g .b ≤ 268435456
+log-small g Y = let a : g .l * g .b ≤ 65536 * 4096 = mul-le-mul (Y .l-most) (Y .b-most) in omega arith
+
+-- ---- all that passing says
+
+pub record Passed (r : Shelf) (na nl : ℕ) (l : List ℕ) : Type 0 where
+  pub range : InRange (r .geometry)
+  pub fine : badRecord r ≡ false
+  pub array : na ≡ arrayLength (r .geometry)
+  pub log : nl ≡ logLength (r .geometry)
+  pub list : length l ≡ listLength (r .geometry)
+  pub valid : valid (words l) (r .geometry) (r .next) (r .listed) ≡ true
+
+pub lengths-pass : (g : Geometry) (na nl nt : ℕ) → badLengths g na nl nt ≡ false → (na ≡ arrayLength g) × ((nl ≡ logLength g) × (nt ≡ listLength g))
+unfolding badLengths
+lengths-pass g na nl nt e =
+    let a : Bool = not (eqb na (arrayLength g)) in
+    let b : Bool = not (eqb nl (logLength g)) in
+    let c : Bool = not (eqb nt (listLength g)) in
+    let q : (b || c) ≡ false = or-right a (b || c) e in (
+      eqb-true na (arrayLength g) (not-off (eqb na (arrayLength g)) (or-left a (b || c) e)),
+      (
+        eqb-true nl (logLength g) (not-off (eqb nl (logLength g)) (or-left b c q)),
+        eqb-true nt (listLength g) (not-off (eqb nt (listLength g)) (or-right b c q)),
+      ),
+    )
+
+pub inputs-pass : (r : Shelf) (na nl : ℕ) (l : List ℕ) (rest : ℕ) → inputRows r na nl l true rest ≡ 0 → Passed r na nl l × (rest ≡ 0)
+unfolding inputRows
+inputs-pass r na nl l rest e =
+    let a = row-zero 1 (badMeasures (r .geometry)) _ (λ z. omega arith) e in
+    let b = row-zero 1 (badRecord r) _ (λ z. omega arith) (a .1) in
+    let c = row-zero 2 (badLengths (r .geometry) na nl (length l)) _ (λ z. omega arith) (b .1) in
+    let d = row-zero 3 (badList r l) rest (λ z. omega arith) (c .1) in
+    let n = lengths-pass (r .geometry) na nl (length l) (c .0) in (
+      record {
+        range = in-range (r .geometry) (a .0);
+        fine = b .0;
+        array = n .0;
+        log = n .1 .0;
+        list = n .1 .1;
+        valid = not-off (valid (words l) (r .geometry) (r .next) (r .listed)) (d .0);
+      },
+      d .1,
+    )
+
+-- the rows after 1 to 3 are tried where those pass, and only there
+pub inputs-then : (r : Shelf) (na nl : ℕ) (l : List ℕ) (rest : ℕ) → inputRows r na nl l true 0 ≡ 0 → inputRows r na nl l true rest ≡ rest
+unfolding inputRows
+inputs-then r na nl l rest e =
+    let a = row-zero 1 (badMeasures (r .geometry)) _ (λ z. omega arith) e in
+    let b = row-zero 1 (badRecord r) _ (λ z. omega arith) (a .1) in
+    let c = row-zero 2 (badLengths (r .geometry) na nl (length l)) _ (λ z. omega arith) (b .1) in
+    let d = row-zero 3 (badList r l) 0 (λ z. omega arith) (c .1) in
+    sym (row-pass 1 (badMeasures (r .geometry)) _ rest (a .0) (row-pass 1 (badRecord r) _ rest (b .0)
+    (row-pass 2 (badLengths (r .geometry) na nl (length l)) _ rest (c .0) (row-pass 3 (badList r l) rest rest (d .0) refl))))
+
+row-same : (n : ℕ) (t : Bool) (a b : ℕ) → n ≢ 0 → (a ≢ 0 → b ≡ a) → row n t a ≢ 0 → row n t b ≡ row n t a
+unfolding row
+row-same n true a b z q e = refl
+row-same n false a b z q e = q e
+
+pub inputs-refuse : (r : Shelf) (na nl : ℕ) (l : List ℕ) (rest : ℕ) → inputRows r na nl l true 0 ≢ 0
+    → inputRows r na nl l true 0 ≡ inputRows r na nl l true rest
+unfolding inputRows
+inputs-refuse r na nl l rest e =
+    sym (row-same 1 (badMeasures (r .geometry)) _ _ (λ z. omega arith)
+    (row-same 1 (badRecord r) _ _ (λ z. omega arith)
+    (row-same 2 (badLengths (r .geometry) na nl (length l)) _ _ (λ z. omega arith)
+    (row-same 3 (badList r l) 0 rest (λ z. omega arith) (λ z. absurd (z refl))))) e)
+
+-- what the list's functions ask
+pub measures-of : (g : Geometry) (l : List ℕ) → InRange g → length l ≡ listLength g → Measures g l
+measures-of g l Y e =
+    record {
+      d0 = omega (arith, Y .d-least);
+      d1 = Y .d-most;
+      s1 = Y .s-most;
+      h0 = omega (arith, Y .h-least);
+      h1 = Y .h-most;
+      e1 = Y .e-most;
+      len = omega (arith, e);
+    }

@@ -1,0 +1,30 @@
+-- `status::fail_code` meets its contract: the rows of the call are tried where rows 1 to 3 pass.
+-- Assumes nothing.
+use borrow.Author.Needs.{needs}
+use mathlib.Core.Path.{_∙_, sym}
+use Rattle.shelf.specs.Lent.{flagAt, listedBy, numberOf, triesList}
+use Rattle.shelf.specs.Status.{codeOf, fail}
+use Rattle.shelf.proofs.CodeLaws.{code-passed, code-refused, range-passed}
+use Rattle.shelf.proofs.status.fail_code.Statement.{statement}
+use Rattle.shelf.proofs.status.fail_code.Tie as tie
+
+input-code-requires : tie.Need-input-code-requires
+input-code-requires c κs = search needs
+
+returns : tie.Need-returns
+unfolding numberOf triesList
+returns c =
+    let a = c .before .before .before .args in
+    code-refused (a .shelf) (a .array) (a .log) (a .list .now) (codeOf (a .shelf .geometry) (flagAt (a .shelf)) (a .shelf .mode) (listedBy (a .shelf .geometry) (a .list .now)) (fail (a .j))) (c .before .input-code .result) (c .before .input-code .ensures) (c .if1 .taken)
+
+fail-rows-requires : tie.Need-fail-rows-requires
+fail-rows-requires c κs = range-passed (c .before .before .before .args .shelf) (c .before .before .before .args .array) (c .before .before .before .args .log) (c .before .before .before .args .list .now) (sym (c .before .input-code .ensures) ∙ c .if1 .left)
+
+returns-2 : tie.Need-returns-2
+unfolding numberOf triesList codeOf
+returns-2 c =
+    let a = c .before .before .before .before .args in
+    code-passed (a .shelf) (a .array) (a .log) (a .list .now) (codeOf (a .shelf .geometry) (flagAt (a .shelf)) (a .shelf .mode) (listedBy (a .shelf .geometry) (a .list .now)) (fail (a .j))) (c .fail-rows .result) (sym (c .before .before .input-code .ensures) ∙ c .before .if1 .left) (c .fail-rows .ensures)
+
+pub fail-code-spec : {M : Type 1} → statement M
+fail-code-spec = tie.close (tie.spec input-code-requires returns fail-rows-requires returns-2)

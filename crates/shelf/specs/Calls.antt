@@ -1,0 +1,247 @@
+-- What each call does to a shelf, where no row of `Status.antt` or `Lent.antt` refuses it. Tables run over stripes below s and data indices below d;
+-- what they hold beyond is of no account. The answers beside the number, the blocks that a read hands over and the stripe that a resync tells, stand
+-- in `Lent.antt` (`readBuffer`, `resyncStripe`).
+-- Assumes nothing.
+use mathlib.Core.Bool.{Bool, true, false, not, _&&_, _||_}
+use mathlib.Core.List.{List}
+use mathlib.Core.Option.{Option, none, some}
+use Prim.Native.Nat.{ℕ, zero, suc, _+_, _-_}
+use lib.Dec.{eqb, ltb, leb}
+use Rattle.stripe.specs.Blocks.{block}
+use Rattle.shelf.specs.Counting.{choose, count, any, setAt}
+use Rattle.shelf.specs.Members.{arrayMembers, logMember, roleP, roleQ, memberAt, addressOf, stripeOf, indexOf, blockP, blockQ, workedBack}
+use Rattle.shelf.specs.State.{Log, State, isSome, listed, marksIn, lowestStale}
+use Rattle.shelf.specs.Status.{Call, start, fail, write, read, resync, rebuild, newLog, fullResync, codeOf}
+use Rattle.shelf.specs.declared.record.Geometry.{Geometry}
+
+-- ---- parts that several calls share
+
+abbrev pub inMode : State → ℕ → State
+inMode s m = record { disk = s .disk; p = s .p; q = s .q; log = s .log; mode = m; failed = s .failed }
+
+abbrev pub withFlags : State → (ℕ → Bool) → State
+withFlags s f = record { disk = s .disk; p = s .p; q = s .q; log = s .log; mode = s .mode; failed = f }
+
+abbrev pub nextLeft : ℕ → ℕ → ℕ
+nextLeft marks next = choose (eqb marks 0) 0 next
+
+abbrev pub modeLeft : ℕ → ℕ → ℕ
+modeLeft marks mode = choose (eqb marks 0 && eqb mode 2) 0 mode
+
+abbrev pub withNext : Log → ℕ → Log
+withNext n r = record { value = n .value; next = r; ori = n .ori; cur = n .cur }
+
+-- Whenever the last listed block is dropped, the next free record becomes 0, so log records are used again, and mode 2 becomes 0. Where nothing was
+-- listed before, row 1 has seen to both already. Mode 1 remains mode 1.
+unfoldable pub settled : Geometry → State → State
+settled g s =
+    record {
+      disk = s .disk;
+      p = s .p;
+      q = s .q;
+      log = withNext (s .log) (nextLeft (marksIn g (listed (s .log))) (s .log .next));
+      mode = modeLeft (marksIn g (listed (s .log))) (s .mode);
+      failed = s .failed;
+    }
+
+-- the list without the blocks of stripe t; the log's values stay
+abbrev pub dropped : Log → ℕ → Log
+dropped n t = record { value = n .value; next = n .next; ori = setAt t (λ _. none) (n .ori); cur = setAt t (λ _. none) (n .cur) }
+
+-- Stripe t with these data blocks: P and Q are made afresh, its listed blocks are dropped, and the rest is settled.
+unfoldable pub made : Geometry → State → ℕ → (ℕ → List ℕ) → State
+made g s t row =
+    settled g (record {
+      disk = setAt t row (s .disk);
+      p = setAt t (blockP g row) (s .p);
+      q = setAt t (blockQ g row) (s .q);
+      log = dropped (s .log) t;
+      mode = s .mode;
+      failed = s .failed;
+    })
+
+-- the list empty and every log record free; the log's values stay
+abbrev pub emptied : Log → Log
+emptied n = record { value = n .value; next = 0; ori = λ _ _. none; cur = λ _ _. none }
+
+-- All stripes with these data blocks and failed members: P and Q are made afresh, the whole list is dropped, and the mode is 0.
+unfoldable pub remade : Geometry → State → (ℕ → ℕ → List ℕ) → (ℕ → Bool) → State
+remade g s disk f =
+    record { disk = disk; p = λ x. blockP g (disk x); q = λ x. blockQ g (disk x); log = emptied (s .log); mode = 0; failed = f }
+
+-- ---- write, one stripe: w tells which data indices are written, m which are listed
+
+-- the blocks to be written that are unlisted, and the other unlisted ones
+abbrev pub unlistedWritten : (ℕ → Bool) → (ℕ → Bool) → ℕ → Bool
+unlistedWritten w m i = w i && not (m i)
+
+abbrev pub unlistedOthers : (ℕ → Bool) → (ℕ → Bool) → ℕ → Bool
+unlistedOthers w m i = not (w i) && not (m i)
+
+-- Read-modify-write pre-reads the former, reconstruction-write the latter; the fewer pre-reads win, a tie goes to read-modify-write.
+abbrev pub reconstructs : ℕ → (ℕ → Bool) → (ℕ → Bool) → Bool
+reconstructs d w m = ltb (count d (unlistedOthers w m)) (count d (unlistedWritten w m))
+
+abbrev pub preRead : ℕ → (ℕ → Bool) → (ℕ → Bool) → ℕ → Bool
+preRead d w m i = choose (reconstructs d w m) (unlistedOthers w m i) (unlistedWritten w m i)
+
+-- the log records and the list's places that a logged stripe takes: a record for each block that is pre-read or written, a place for each block that
+-- is listed anew
+abbrev pub recordsFor : ℕ → (ℕ → Bool) → (ℕ → Bool) → ℕ
+recordsFor d w m = count d (preRead d w m) + count d w
+
+abbrev pub placesFor : ℕ → (ℕ → Bool) → (ℕ → Bool) → ℕ
+placesFor d w m = choose (reconstructs d w m) (count d (unlistedWritten w m) + count d (unlistedOthers w m)) (count d (unlistedWritten w m))
+
+-- whether stripe t is logged: in mode 1, where log and list have room
+abbrev pub logs : Geometry → State → ℕ → (ℕ → Bool) → Bool
+logs g s t w =
+    eqb (s .mode) 1
+    && (leb (s .log .next + recordsFor (g .d) w (listed (s .log) t)) (g .l)
+    && leb (marksIn g (listed (s .log)) + placesFor (g .d) w (listed (s .log) t)) (g .e))
+
+-- Appending to the log: the values so far, the next free record, and the records of a stripe's blocks, which are Ori of the pre-read values and Cur
+-- of the new ones.
+pub record Appended : Type 0 where
+  pub value : ℕ → List ℕ
+  pub next : ℕ
+  pub noted : ℕ → Option ℕ
+
+-- block v of data index i is appended, where it is picked
+unfoldable pub appendOne : Bool → ℕ → List ℕ → Appended → Appended
+appendOne true i v a =
+    record { value = setAt (a .next) v (a .value); next = suc (a .next); noted = setAt i (some (a .next)) (a .noted) }
+appendOne false i v a = a
+
+-- in rising data index, those of the first c that are picked
+unfoldable pub append : ℕ → (ℕ → Bool) → (ℕ → List ℕ) → Appended → Appended
+append zero w v a = a
+append (suc c) w v a = appendOne (w c) c (v c) (append c w v a)
+
+-- the blocks of a row, those that are written replaced
+abbrev pub overwritten : (ℕ → Bool) → (ℕ → List ℕ) → (ℕ → List ℕ) → ℕ → List ℕ
+overwritten w v old i = choose (w i) (v i) (old i)
+
+-- Pre-read values of stripe t are appended, with Ori set; then each new value, with Cur set.
+abbrev pub oriAppended : Geometry → State → ℕ → (ℕ → Bool) → Appended
+oriAppended g s t w =
+    append (g .d) (preRead (g .d) w (listed (s .log) t)) (s .disk t)
+    (record { value = s .log .value; next = s .log .next; noted = s .log .ori t })
+
+abbrev pub curAppended : Geometry → State → ℕ → (ℕ → Bool) → (ℕ → List ℕ) → Appended
+curAppended g s t w v =
+    append (g .d) w v (record { value = oriAppended g s t w .value; next = oriAppended g s t w .next; noted = s .log .cur t })
+
+-- Stripe t logged: pre-read values, new values, then the disks get the new blocks; parity is untouched.
+unfoldable pub logged : Geometry → State → ℕ → (ℕ → Bool) → (ℕ → List ℕ) → State
+logged g s t w v =
+    record {
+      disk = setAt t (overwritten w v (s .disk t)) (s .disk);
+      p = s .p;
+      q = s .q;
+      log =
+          record {
+            value = curAppended g s t w v .value;
+            next = curAppended g s t w v .next;
+            ori = setAt t (oriAppended g s t w .noted) (s .log .ori);
+            cur = setAt t (curAppended g s t w v .noted) (s .log .cur);
+          };
+      mode = s .mode;
+      failed = s .failed;
+    }
+
+-- A stripe is logged where it can be; else the disks get the new blocks, P and Q are made afresh, and the stripe's listed blocks are dropped.
+unfoldable pub writeStripe : Geometry → State → ℕ → (ℕ → Bool) → (ℕ → List ℕ) → State
+writeStripe g s t w v = choose (logs g s t w) (logged g s t w v) (made g s t (overwritten w v (s .disk t)))
+
+-- ---- write, in stripes: n blocks from address a on, out of the caller's data
+
+-- which blocks of stripe x are written, and what
+abbrev pub written : Geometry → ℕ → ℕ → ℕ → ℕ → Bool
+written g a n x i = leb a (addressOf g x i) && ltb (addressOf g x i) (a + n)
+
+abbrev pub given : Geometry → ℕ → List ℕ → ℕ → ℕ → List ℕ
+given g a v x i = block (g .b) (addressOf g x i - a) v
+
+-- in rising order, those of the first c stripes that have a block to be written
+unfoldable pub writeTo : Geometry → ℕ → ℕ → ℕ → List ℕ → State → State
+writeTo g zero a n v s = s
+writeTo g (suc c) a n v s =
+    let r = writeTo g c a n v s in
+    choose (any (g .d) (written g a n c)) (writeStripe g r c (written g a n c) (given g a v c)) r
+
+-- ---- read
+
+abbrev pub orElse : {A : Type 0} → Option ℕ → (ℕ → A) → A → A
+orElse none f z = z
+orElse (some r) f z = f r
+
+-- The originals of stripe x that parity is worked back from: a listed block's Ori, an unlisted one's bytes if its disk is sound; all else is missing,
+-- and what stands in `original` for it is not looked at.
+abbrev pub original : Geometry → State → ℕ → ℕ → List ℕ
+original g s x i =
+    choose (ltb i (g .d)) (orElse (s .log .ori x i) (s .log .value) (s .disk x i)) (choose (eqb i (roleP g)) (s .p x) (s .q x))
+
+abbrev pub missing : Geometry → State → ℕ → ℕ → Bool
+missing g s x i = choose (ltb i (g .d) && listed (s .log) x i) (not (isSome (s .log .ori x i))) (s .failed (memberAt g x i))
+
+-- the block that a read gives: its disk's, or on a failed disk Cur, else Ori, else worked back by parity
+unfoldable pub blockAt : Geometry → State → ℕ → ℕ → List ℕ
+blockAt g s x i =
+    choose (s .failed (memberAt g x i))
+    (orElse (s .log .cur x i) (s .log .value)
+    (orElse (s .log .ori x i) (s .log .value) (workedBack g (missing g s x) (original g s x) i)))
+    (s .disk x i)
+
+-- block j of a read from address a on
+abbrev pub served : Geometry → State → ℕ → ℕ → List ℕ
+served g s a j = blockAt g s (stripeOf g (a + j)) (indexOf g (a + j))
+
+-- ---- resync
+
+-- Mode 2; P and Q of the lowest stale stripe are made and its listed blocks dropped. If none is stale, nothing is stored and the mode is 0.
+unfoldable pub resynced : Geometry → State → State
+resynced g s =
+    let t = lowestStale g (listed (s .log)) in choose (ltb t (g .s)) (made g (inMode s 2) t (s .disk t)) (inMode s 0)
+
+-- ---- rebuild
+
+-- P or Q had failed: the member that has it in a stripe (in this layout the same for all stripes)
+abbrev pub parityFailed : Geometry → (ℕ → Bool) → Bool
+parityFailed g f = any (g .s) (λ x. f (memberAt g x (roleP g)) || f (memberAt g x (roleQ g)))
+
+abbrev pub arrayCleared : Geometry → (ℕ → Bool) → ℕ → Bool
+arrayCleared g f i = choose (ltb i (arrayMembers g)) false (f i)
+
+-- Every failed data disk is filled with what read would give; a sound one is read as it is. If P or Q had failed, both are made afresh for every
+-- stripe, the whole list is dropped and the mode becomes 0; otherwise list and mode remain. All array flags clear.
+unfoldable pub rebuilt : Geometry → State → State
+rebuilt g s =
+    choose (parityFailed g (s .failed)) (remade g s (blockAt g s) (arrayCleared g (s .failed)))
+    (record { disk = blockAt g s; p = s .p; q = s .q; log = s .log; mode = s .mode; failed = arrayCleared g (s .failed) })
+
+-- ---- the calls
+
+-- If the log fails, mode 1 becomes 2 when blocks are listed, else 0.
+abbrev pub modeFailed : Geometry → State → ℕ → ℕ
+modeFailed g s j =
+    choose (eqb j (logMember g) && eqb (s .mode) 1) (choose (eqb (marksIn g (listed (s .log))) 0) 0 2) (s .mode)
+
+-- what an accepted call does
+unfoldable pub work : Geometry → Call → State → State
+work g start s = inMode s 1
+work g (fail j) s = inMode (withFlags s (setAt j true (s .failed))) (modeFailed g s j)
+work g (write a n v) s = writeTo g (g .s) a n v s
+work g (read a n len) s = s
+work g resync s = resynced g s
+work g rebuild s = rebuilt g s
+work g newLog s = withFlags s (setAt (logMember g) false (s .failed))
+work g fullResync s = remade g s (s .disk) (s .failed)
+
+-- the number that a call gets from the shelf
+abbrev pub code : Geometry → Call → State → ℕ
+code g c s = codeOf g (s .failed) (s .mode) (listed (s .log)) c
+
+-- what a call leaves; a refused one stores nothing
+unfoldable pub after : Geometry → Call → State → State
+after g c s = choose (eqb (code g c s) 0) (work g c s) s

@@ -1,0 +1,13 @@
+pub mod Counting
+pub mod Members
+pub mod State
+pub mod Status
+pub mod Calls
+pub mod Book
+pub mod Words
+pub mod HashList
+pub mod Checking
+pub mod Rewriting
+pub mod Lent
+pub mod Records
+pub mod Sequence

@@ -1,0 +1,93 @@
+-- The members of a shelf, its block addresses and its blocks. The letters are those of the geometry: d data disks, s stripes, blocks of b bytes,
+-- a log of l records, a list of h hash slots and e places.
+-- Assumes nothing.
+use mathlib.Core.Bool.{Bool, not, _&&_}
+use mathlib.Core.List.{List}
+use mathlib.Core.Path.{_≡_}
+use Prim.Native.Nat.{ℕ, _+_, _*_, _/_, _%_, _≤_}
+use lib.Dec.{eqb, ltb}
+use lib.ListN.{length, getD}
+use Rattle.stripe.specs.Blocks.{gen}
+use Rattle.stripe.specs.Parity.{parityP, parityQ, solved}
+use Rattle.stripe.specs.Places.{memberOf}
+use Rattle.stripe.specs.Sound.{AreBytes}
+use Rattle.shelf.specs.Counting.{choose, first}
+use Rattle.shelf.specs.declared.record.Geometry.{Geometry}
+
+-- the measures in their ranges
+pub record InRange (g : Geometry) : Type 0 where
+  pub d-least : 2 ≤ g .d
+  pub d-most : g .d ≤ 16
+  pub s-least : 1 ≤ g .s
+  pub s-most : g .s ≤ 65536
+  pub b-least : 1 ≤ g .b
+  pub b-most : g .b ≤ 4096
+  pub l-least : 1 ≤ g .l
+  pub l-most : g .l ≤ 65536
+  pub h-least : 1 ≤ g .h
+  pub h-most : g .h ≤ 256
+  pub e-least : 1 ≤ g .e
+  pub e-most : g .e ≤ 4096
+
+-- Members are numbered: data disks from 0, then P, Q and the log. The array holds all but the log.
+abbrev pub arrayMembers : Geometry → ℕ
+arrayMembers g = g .d + 2
+
+abbrev pub logMember : Geometry → ℕ
+logMember g = g .d + 2
+
+abbrev pub allMembers : Geometry → ℕ
+allMembers g = g .d + 3
+
+-- a stripe's roles: data index 0 to d - 1, then P and Q
+abbrev pub roleP : Geometry → ℕ
+roleP g = g .d
+
+abbrev pub roleQ : Geometry → ℕ
+roleQ g = g .d + 1
+
+-- the member that has a role in stripe x: the layout
+abbrev pub memberAt : Geometry → ℕ → ℕ → ℕ
+memberAt g x i = memberOf (g .d) x i
+
+-- Block addresses run below d * s. Address a sits in stripe a / d, rounded down, at data index a mod d; and data index i of stripe x has address
+-- x * d + i.
+abbrev pub addresses : Geometry → ℕ
+addresses g = g .d * g .s
+
+abbrev pub stripeOf : Geometry → ℕ → ℕ
+stripeOf g a = a / g .d
+
+abbrev pub indexOf : Geometry → ℕ → ℕ
+indexOf g a = a % g .d
+
+abbrev pub addressOf : Geometry → ℕ → ℕ → ℕ
+addressOf g x i = x * g .d + i
+
+-- ---- blocks: lists of b bytes
+
+abbrev pub IsBlock : Geometry → List ℕ → Type 0
+IsBlock g v = (length v ≡ g .b) × AreBytes v
+
+unfoldable pub blank : Geometry → List ℕ
+blank g = gen (g .b) (λ _. 0)
+
+-- byte j of each block of a row: a column, of which the stripe's mathematics speaks
+abbrev pub column : (ℕ → List ℕ) → ℕ → ℕ → ℕ
+column row j i = getD (row i) j 0
+
+-- P and Q of a row of data blocks, byte by byte
+unfoldable pub blockP : Geometry → (ℕ → List ℕ) → List ℕ
+blockP g row = gen (g .b) (λ j. parityP (g .d) (column row j))
+
+unfoldable pub blockQ : Geometry → (ℕ → List ℕ) → List ℕ
+blockQ g row = gen (g .b) (λ j. parityQ (g .d) (column row j))
+
+-- the other missing role beside i: the lowest one, or i itself where no other is missing
+unfoldable pub otherMissing : Geometry → (ℕ → Bool) → ℕ → ℕ
+otherMissing g missing i =
+    let y = first (arrayMembers g) (λ n. missing n && not (eqb n i)) in choose (ltb y (arrayMembers g)) y i
+
+-- data block i of a row of d + 2 blocks, worked back from those that are not missing; at most one other is
+unfoldable pub workedBack : Geometry → (ℕ → Bool) → (ℕ → List ℕ) → ℕ → List ℕ
+workedBack g missing row i = gen (g .b) (λ j. solved (g .d) i (otherMissing g missing i) (column row j))

@@ -1,0 +1,127 @@
+// The record of a shelf: its geometry, its mode, how far the log and the list are used, and which members have failed. A call takes
+// it by value and hands the new one back; the methods here make the new one.
+ghost use mathlib.Core.Path.{_≡_};
+ghost use Prim.Native.Nat.{_≤_, _<_};
+ghost use Rattle.shelf.specs.Counting.{count, any};
+ghost use Rattle.shelf.specs.Lent.{flagAt, flagFrom};
+ghost use Rattle.shelf.specs.Records.{withMode, withFailed, withRenewed, withListed};
+
+// The measures of a shelf, with the letters of its description: d data disks (2 to 16), s stripes (1 to 65,536), blocks of b bytes
+// (1 to 4,096), a log of l records (1 to 65,536), a list of h hash slots (1 to 256) and e places (1 to 4,096).
+#[repr(C)]
+pub struct Geometry {
+    pub d: usize,
+    pub s: usize,
+    pub b: usize,
+    pub l: usize,
+    pub h: usize,
+    pub e: usize,
+}
+
+// The record: the mode (0 normal, 1 accelerating, 2 transitional), the next free log record, the count of listed blocks, and one
+// failure flag a member.
+#[repr(C)]
+pub struct Shelf {
+    pub geometry: Geometry,
+    pub mode: usize,
+    pub next: usize,
+    pub listed: usize,
+    pub failed: [bool; 19],
+}
+
+impl Shelf {
+    // How many of the first n members have failed.
+    pub fn count_failed(self, n: usize) -> usize
+        requires { ⌜ n ≤ 19 ⌝ }
+        ensures { λ r. ⌜ r ≡ count n (flagAt self) ⌝ }
+    {
+        let failed = self.failed;
+        let mut sum: usize = 0;
+        let mut i: usize = 0;
+        while i < n {
+            if failed[i] {
+                sum += 1;
+            }
+            i += 1;
+        }
+        sum
+    }
+
+    // Whether one of the members from low on, below high, has failed.
+    pub fn any_failed(self, low: usize, high: usize) -> bool
+        requires { ⌜ (low ≤ high) × (high ≤ 19) ⌝ }
+        ensures { λ r. ⌜ r ≡ any high (flagFrom (self .failed) low) ⌝ }
+    {
+        let failed = self.failed;
+        let mut found = false;
+        let mut i = low;
+        while i < high {
+            if failed[i] {
+                found = true;
+            }
+            i += 1;
+        }
+        found
+    }
+
+    // Whether member j has failed.
+    pub fn has_failed(self, j: usize) -> bool
+        requires { ⌜ j < 19 ⌝ }
+        ensures { λ r. ⌜ r ≡ flagAt self j ⌝ }
+    {
+        let failed = self.failed;
+        failed[j]
+    }
+
+    // The record in another mode.
+    pub fn in_mode(mut self, mode: usize) -> Shelf
+        ensures { λ r. ⌜ r ≡ withMode self mode ⌝ }
+    {
+        self.mode = mode;
+        self
+    }
+
+    // The record of a started shelf: in mode 1.
+    pub fn start(self) -> Shelf
+        ensures { λ r. ⌜ r ≡ withMode self 1 ⌝ }
+    {
+        self.in_mode(1)
+    }
+
+    // The record after member j failed. If it is the log, mode 1 becomes 2 when blocks are listed, else 0.
+    pub fn fail(mut self, j: usize) -> Shelf
+        requires { ⌜ (self .geometry .d ≤ 16) × (j < 19) ⌝ }
+        ensures { λ r. ⌜ r ≡ withFailed self j ⌝ }
+    {
+        self.failed[j] = true;
+        if j == self.geometry.d + 2 {
+            if self.mode == 1 {
+                self.mode = if self.listed == 0 { 0 } else { 2 };
+            }
+        }
+        self
+    }
+
+    // The record with member j's flag cleared.
+    pub fn renew(mut self, j: usize) -> Shelf
+        requires { ⌜ j < 19 ⌝ }
+        ensures { λ r. ⌜ r ≡ withRenewed self j ⌝ }
+    {
+        self.failed[j] = false;
+        self
+    }
+
+    // The record after entries were dropped and n are left. Where none is, all log records are free again and mode 2 ends.
+    pub fn drop_to(mut self, n: usize) -> Shelf
+        ensures { λ r. ⌜ r ≡ withListed self n ⌝ }
+    {
+        self.listed = n;
+        if n == 0 {
+            self.next = 0;
+            if self.mode == 2 {
+                self.mode = 0;
+            }
+        }
+        self
+    }
+}

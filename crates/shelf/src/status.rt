@@ -1,0 +1,195 @@
+// The numbers by which calls are refused, decided before anything is stored: each function answers what the definition of the same rows in
+// `specs/Status.antt` and `specs/Lent.antt` says.
+use super::list;
+use super::record;
+ghost use mathlib.Core.Bool.{_&&_, _||_, true};
+ghost use mathlib.Core.Path.{_≡_};
+ghost use Prim.Native.Nat.{_≤_};
+ghost use Rattle.shelf.specs.Members.{InRange};
+ghost use Rattle.shelf.specs.Status.{codeOf, start, fail, newLog, row, logSound};
+ghost use Rattle.shelf.specs.Lent.{flagAt, outside, badMeasures, badRecord, badLengths, inputRows, numberOf, formatCode};
+ghost use Rattle.shelf.specs.Records.{unmarked, newLogRows};
+
+// What format answers, for buffers of these lengths.
+pub fn format_code(g: record::Geometry, array: usize, log: usize, list: usize) -> usize
+    ensures { λ n. ⌜ n ≡ formatCode g array log list ⌝ }
+{
+    if bad_measures(g) {
+        return 1;
+    }
+    if bad_lengths(g, array, log, list) {
+        return 2;
+    }
+    0
+}
+
+// What start answers, for an array and a log of these lengths.
+pub fn start_code(shelf: record::Shelf, array: usize, log: usize, list: &[u8]) -> usize
+    ensures { λ n. ⌜ n ≡ numberOf shelf array log (now (list .entry)) start ⌝ }
+{
+    let code = input_code(shelf, array, log, list);
+    if code != 0 {
+        return code;
+    }
+    start_rows(shelf)
+}
+
+// What fail answers of member j, for an array and a log of these lengths.
+pub fn fail_code(shelf: record::Shelf, j: usize, array: usize, log: usize, list: &[u8]) -> usize
+    ensures { λ n. ⌜ n ≡ numberOf shelf array log (now (list .entry)) (fail j) ⌝ }
+{
+    let code = input_code(shelf, array, log, list);
+    if code != 0 {
+        return code;
+    }
+    fail_rows(shelf, j)
+}
+
+// What new log answers, for an array and a log of these lengths.
+pub fn new_log_code(shelf: record::Shelf, array: usize, log: usize, list: &[u8]) -> usize
+    ensures { λ n. ⌜ n ≡ numberOf shelf array log (now (list .entry)) newLog ⌝ }
+{
+    let code = input_code(shelf, array, log, list);
+    if code != 0 {
+        return code;
+    }
+    new_log_rows(shelf)
+}
+
+// Rows 1 to 3, for an array and a log of these lengths: the number of the first that applies, or 0.
+fn input_code(shelf: record::Shelf, array: usize, log: usize, list: &[u8]) -> usize
+    ensures { λ n. ⌜ n ≡ inputRows shelf array log (now (list .entry)) true 0 ⌝ }
+{
+    let g = shelf.geometry;
+    if bad_measures(g) {
+        return 1;
+    }
+    if bad_record(shelf) {
+        return 1;
+    }
+    if bad_lengths(g, array, log, list.len()) {
+        return 2;
+    }
+    if !list::check_list(list, g, shelf.next, shelf.listed) {
+        return 3;
+    }
+    0
+}
+
+// The rows of start after those: 7, 8, 9.
+fn start_rows(shelf: record::Shelf) -> usize
+    requires { ⌜ shelf .geometry .d ≤ 16 ⌝ }
+    ensures { λ n. ⌜ n ≡ codeOf (shelf .geometry) (flagAt shelf) (shelf .mode) unmarked start ⌝ }
+{
+    let g = shelf.geometry;
+    if shelf.mode != 0 {
+        return 7;
+    }
+    if shelf.any_failed(0, g.d + 2) {
+        return 8;
+    }
+    if shelf.has_failed(g.d + 2) {
+        return 9;
+    }
+    0
+}
+
+// The rows of fail: 6, 10, 11.
+fn fail_rows(shelf: record::Shelf, j: usize) -> usize
+    requires { ⌜ shelf .geometry .d ≤ 16 ⌝ }
+    ensures { λ n. ⌜ n ≡ codeOf (shelf .geometry) (flagAt shelf) (shelf .mode) unmarked (fail j) ⌝ }
+{
+    let g = shelf.geometry;
+    if g.d + 2 < j {
+        return 6;
+    }
+    if shelf.has_failed(j) {
+        return 10;
+    }
+    if 2 <= shelf.count_failed(g.d + 3) {
+        return 11;
+    }
+    0
+}
+
+// The rows of new log: 12, 13.
+fn new_log_rows(shelf: record::Shelf) -> usize
+    requires { ⌜ shelf .geometry .d ≤ 16 ⌝ }
+    ensures { λ n. ⌜ n ≡ newLogRows shelf ⌝ }
+{
+    let g = shelf.geometry;
+    if !shelf.has_failed(g.d + 2) {
+        return 12;
+    }
+    if 0 < shelf.listed {
+        return 13;
+    }
+    0
+}
+
+// Row 1, of the geometry: whether a measure is outside its range.
+fn bad_measures(g: record::Geometry) -> bool
+    ensures { λ r. ⌜ r ≡ badMeasures g ⌝ }
+{
+    let e = outside(1, 4096, g.e);
+    let h = either(outside(1, 256, g.h), e);
+    let l = either(outside(1, 65536, g.l), h);
+    let b = either(outside(1, 4096, g.b), l);
+    let s = either(outside(1, 65536, g.s), b);
+    either(outside(2, 16, g.d), s)
+}
+
+// Row 1, of the rest of the record.
+fn bad_record(shelf: record::Shelf) -> bool
+    requires { ⌜ shelf .geometry .d ≤ 16 ⌝ }
+    ensures { λ r. ⌜ r ≡ badRecord shelf ⌝ }
+{
+    let g = shelf.geometry;
+    let accelerating = both(shelf.mode == 1, shelf.has_failed(g.d + 2));
+    let transitional = either(both(shelf.mode == 2, shelf.listed == 0), accelerating);
+    let normal = either(both(shelf.mode == 0, 0 < shelf.listed), transitional);
+    let idle = either(both(shelf.listed == 0, 0 < shelf.next), normal);
+    let places = either(g.e < shelf.listed, idle);
+    let records = either(g.l < shelf.next, places);
+    let flags = either(2 < shelf.count_failed(19), records);
+    let above = either(shelf.any_failed(g.d + 3, 19), flags);
+    either(2 < shelf.mode, above)
+}
+
+// Row 2, for an array, a log and a list of these lengths.
+fn bad_lengths(g: record::Geometry, array: usize, log: usize, list: usize) -> bool
+    requires { ⌜ InRange g ⌝ }
+    ensures { λ r. ⌜ r ≡ badLengths g array log list ⌝ }
+{
+    either(
+        array != (g.d + 2) * g.s * g.b,
+        either(log != g.l * g.b, list != 4 * g.h + 16 * g.e),
+    )
+}
+
+// Whether x is below low or above high.
+fn outside(low: usize, high: usize, x: usize) -> bool
+    ensures { λ r. ⌜ r ≡ outside low high x ⌝ }
+{
+    either(x < low, high < x)
+}
+
+// Whether a or c.
+fn either(a: bool, c: bool) -> bool
+    ensures { λ r. ⌜ r ≡ (a || c) ⌝ }
+{
+    if a {
+        return true;
+    }
+    c
+}
+
+// Whether a and c.
+fn both(a: bool, c: bool) -> bool
+    ensures { λ r. ⌜ r ≡ (a && c) ⌝ }
+{
+    if a {
+        return c;
+    }
+    false
+}

@@ -1,0 +1,43 @@
+// Bytes as 32-bit words, lowest byte first: word i is the bytes 4 i to 4 i + 3.
+ghost use mathlib.Core.Path.{_≡_};
+ghost use Prim.Native.Nat.{_+_, _*_, _≤_, _<_};
+ghost use lib.ListN.{length, getD, set, replicate};
+ghost use Rattle.shelf.specs.Words.{words};
+ghost use Rattle.shelf.specs.HashList.{noneWord};
+
+// Word i.
+pub fn word(l: &[u8], i: usize) -> usize
+    requires { ⌜ 4 * i + 4 ≤ length (now l) ⌝ }
+    ensures { λ r. ⌜ (r ≡ getD (words (now (l .entry))) i 0) × (r < 4294967296) ⌝ }
+{
+    let a = 4 * i;
+    let b0 = l[a] as usize;
+    let b1 = l[a + 1] as usize;
+    let b2 = l[a + 2] as usize;
+    let b3 = l[a + 3] as usize;
+    b0 + b1 * 256 + b2 * 65536 + b3 * 16777216
+}
+
+// Puts v as word i.
+pub fn put_word(l: &mut [u8], i: usize, v: usize)
+    requires { ⌜ (4 * i + 4 ≤ length (now l)) × (v < 4294967296) ⌝ }
+    ensures { λ _. ⌜ words (now (l .exit)) ≡ set (words (now (l .entry))) i v ⌝ }
+{
+    let a = 4 * i;
+    l[a] = (v % 256) as u8;
+    l[a + 1] = (v / 256 % 256) as u8;
+    l[a + 2] = (v / 65536 % 256) as u8;
+    l[a + 3] = (v / 16777216) as u8;
+}
+
+// Puts none, FFFFFFFF hexadecimal, as each of the k words.
+pub fn fill_none(l: &mut [u8], k: usize)
+    requires { ⌜ (k < 1000000) × (length (now l) ≡ 4 * k) ⌝ }
+    ensures { λ _. ⌜ words (now (l .exit)) ≡ replicate k noneWord ⌝ }
+{
+    let mut i: usize = 0;
+    while i < k {
+        put_word(l, i, 4294967295);
+        i += 1;
+    }
+}
