@@ -11,7 +11,8 @@ use native.Mathlib.Omega.{arith}
 use Rattle.shelf.specs.Counting.{count, setAt}
 use Rattle.shelf.specs.State.{isSome}
 use Rattle.shelf.specs.Calls.{Appended, appendOne, append}
-use Rattle.shelf.proofs.CountLaws.{cases, clash, below-or-at, or-true, or-false, setAt-here, setAt-other, count-more, count-on, count-off}
+use Rattle.shelf.proofs.CountLaws.{below-or-at, setAt-here, setAt-other, count-more, count-on, count-off}
+use Rattle.shelf.proofs.TestLaws.{cases, clash, or-true, or-false}
 use Rattle.shelf.proofs.ListedLaws.{some-is}
 
 -- how the next block changes what has been appended

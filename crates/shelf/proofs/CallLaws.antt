@@ -16,7 +16,8 @@ use Rattle.shelf.specs.Status.{start, fail, resync, rebuild, newLog, ful
 use Rattle.shelf.specs.Calls.{inMode, nextLeft, modeLeft, settled, made, remade, resynced, blockAt, parityFailed, arrayCleared, rebuilt, modeFailed, work, code}
 use Rattle.shelf.specs.Book.{Marks, Book, closed, bookWork}
 use Rattle.shelf.specs.declared.record.Geometry.{Geometry}
-use Rattle.shelf.proofs.CountLaws.{cases, clash, or-left, or-right, and-false, choose-true, choose-false, setAt-here, setAt-same, setAt-other, setRow-other, first-ext, any-none, count-mono, count-at, first-le, first-none}
+use Rattle.shelf.proofs.CountLaws.{setAt-here, setAt-same, setAt-other, setRow-other, first-ext, any-none, count-mono, count-at, first-le, first-none}
+use Rattle.shelf.proofs.TestLaws.{cases, clash, or-left, or-right, and-false, choose-true, choose-false}
 use Rattle.shelf.proofs.ListedLaws.{never-some, unlisted, marksIn-ext, stale-ext, marks-none, none-marks, no-marks}
 use Rattle.shelf.proofs.Agreement.{Nearly, Valid, Agrees, all-sound}
 use Rattle.shelf.proofs.StatusLaws.{start-passed, fail-passed, resync-passed, rebuild-passed, newLog-passed, fullResync-passed}

@@ -12,7 +12,8 @@ use Rattle.shelf.specs.Status.{fail, newLog, badMember, logSound, row, c
 use Rattle.shelf.specs.Lent.{flagAt, inputRows, triesList, listedBy, numberOf}
 use Rattle.shelf.specs.Records.{newLogRows}
 use Rattle.shelf.specs.declared.record.Shelf.{Shelf}
-use Rattle.shelf.proofs.InputLaws.{row-zero, inputs-pass, inputs-then, inputs-refuse}
+use Rattle.shelf.proofs.InputLaws.{inputs-pass, inputs-then, inputs-refuse}
+use Rattle.shelf.proofs.TableRows.{row-zero}
 use Rattle.shelf.proofs.ListMarks.{marks-listed}
 
 module _ (r : Shelf) (na nl : ℕ) (l : List ℕ) where

@@ -1,6 +1,6 @@
--- Laws of choosing by a test, of tables and of counting.
+-- Laws of tables and of counting.
 -- Assumes nothing.
-use mathlib.Core.Bool.{Bool, true, false, _&&_, _||_, true≢false, false≢true}
+use mathlib.Core.Bool.{Bool, true, false, _||_, false≢true}
 use mathlib.Core.Logic.{_⊎_, inl, inr, ⊎-elim}
 use mathlib.Core.Path.{_≡_, refl, sym, ap, ap₂, _∙_, subst}
 use Prim.Native.Nat.{ℕ, zero, suc, _+_, _≤_, _<_}
@@ -9,57 +9,12 @@ use native.Mathlib.Omega.{arith}
 use lib.Dec.{eqb}
 use borrow.Author.Tests.{eq-eqb, ne-eqb}
 use Rattle.shelf.specs.Counting.{choose, bit, count, total, any, first, setAt}
+use Rattle.shelf.proofs.TestLaws.{cases, clash, or-left, or-right, choose-true, choose-false}
 
--- ---- tests
-
--- by how a test comes out
-pub cases {ℓ} : {P : Type ℓ} (t : Bool) → (t ≡ true → P) → (t ≡ false → P) → P
-cases true y n = y refl
-cases false y n = n refl
-
-pub clash {ℓ} : {P : Type ℓ} {t : Bool} → t ≡ true → t ≡ false → P
-clash p q = absurd (true≢false (sym p ∙ q))
+-- ---- numbers
 
 pub below-or-at : (i n : ℕ) → i < suc n → (i < n) ⊎ (i ≡ n)
 below-or-at i n h = elim (decLt i n) [ yes p ↦ inl p | no q ↦ inr (omega arith) ]
-
-pub and-left : (a b : Bool) → (a && b) ≡ true → a ≡ true
-and-left true b e = refl
-and-left false b e = e
-
-pub and-right : (a b : Bool) → (a && b) ≡ true → b ≡ true
-and-right true b e = e
-and-right false b e = clash e refl
-
-pub or-left : (a b : Bool) → (a || b) ≡ false → a ≡ false
-or-left true b e = e
-or-left false b e = refl
-
-pub or-right : (a b : Bool) → (a || b) ≡ false → b ≡ false
-or-right true b e = clash refl e
-or-right false b e = e
-
-pub or-true : (a : Bool) → (a || true) ≡ true
-or-true true = refl
-or-true false = refl
-
-pub or-false : (a : Bool) → (a || false) ≡ a
-or-false true = refl
-or-false false = refl
-
-pub and-false : (a : Bool) → (a && false) ≡ false
-and-false true = refl
-and-false false = refl
-
--- ---- choosing
-
-pub choose-true {ℓ} : {A : Type ℓ} (t : Bool) (a b : A) → t ≡ true → choose t a b ≡ a
-unfolding choose
-choose-true t a b e = ap (λ (t : Bool). choose t a b) e
-
-pub choose-false {ℓ} : {A : Type ℓ} (t : Bool) (a b : A) → t ≡ false → choose t a b ≡ b
-unfolding choose
-choose-false t a b e = ap (λ (t : Bool). choose t a b) e
 
 -- ---- a table with one element changed
 

@@ -1,7 +1,7 @@
 -- Numbers 1, 2 and 3 are never given on a shelf reached from a fresh one, with its own record and buffers: the number of any call is one that the
 -- book gives, and the book knows only those from 4 on.
 -- Assumes nothing.
-use mathlib.Core.Bool.{Bool, true, false}
+use mathlib.Core.Bool.{Bool, false}
 use mathlib.Core.Logic.{_≢_}
 use mathlib.Core.Path.{_≡_, sym, _∙_, subst}
 use Prim.Native.Nat.{ℕ, _<_}
@@ -13,15 +13,10 @@ use Rattle.shelf.specs.Book.{Book}
 use Rattle.shelf.specs.Lent.{Lent, badMeasures, numberOf}
 use Rattle.shelf.specs.Sequence.{Reached}
 use Rattle.shelf.specs.declared.record.Geometry.{Geometry}
+use Rattle.shelf.proofs.TableRows.{row-above}
 use Rattle.shelf.proofs.InputLaws.{in-range}
 use Rattle.shelf.proofs.Holding.{number-book}
 use Rattle.shelf.proofs.Reaching.{stands}
-
--- a row with another number
-past : (n m : ℕ) (t : Bool) (rest : ℕ) → m < n → rest ≢ m → row n t rest ≢ m
-unfolding row
-past n m true rest l z e = omega arith
-past n m false rest l z e = z e
 
 module _ (g : Geometry) (f : ℕ → Bool) (mode : ℕ) (marks : ℕ → ℕ → Bool) (m : ℕ) (some : 0 < m) (low : m < 4) where
   none-else : 0 ≢ m
@@ -30,14 +25,14 @@ module _ (g : Geometry) (f : ℕ → Bool) (mode : ℕ) (marks : ℕ → ℕ →
   -- no row of a call after the first three has a number below 4
   from-four : (c : Call) → codeOf g f mode marks c ≢ m
   unfolding codeOf
-  from-four start = past 7 m _ _ (omega arith) (past 8 m _ _ (omega arith) (past 9 m _ _ (omega arith) none-else))
-  from-four (fail j) = past 6 m _ _ (omega arith) (past 10 m _ _ (omega arith) (past 11 m _ _ (omega arith) none-else))
-  from-four (write a n v) = past 4 m _ _ (omega arith) (past 5 m _ _ (omega arith) (past 8 m _ _ (omega arith) none-else))
-  from-four (read a n len) = past 4 m _ _ (omega arith) (past 5 m _ _ (omega arith) (past 14 m _ _ (omega arith) none-else))
-  from-four resync = past 7 m _ _ (omega arith) (past 8 m _ _ (omega arith) none-else)
-  from-four rebuild = past 12 m _ _ (omega arith) (past 14 m _ _ (omega arith) none-else)
-  from-four newLog = past 12 m _ _ (omega arith) (past 13 m _ _ (omega arith) none-else)
-  from-four fullResync = past 8 m _ _ (omega arith) none-else
+  from-four start = row-above 7 m _ _ (omega arith) (row-above 8 m _ _ (omega arith) (row-above 9 m _ _ (omega arith) none-else))
+  from-four (fail j) = row-above 6 m _ _ (omega arith) (row-above 10 m _ _ (omega arith) (row-above 11 m _ _ (omega arith) none-else))
+  from-four (write a n v) = row-above 4 m _ _ (omega arith) (row-above 5 m _ _ (omega arith) (row-above 8 m _ _ (omega arith) none-else))
+  from-four (read a n len) = row-above 4 m _ _ (omega arith) (row-above 5 m _ _ (omega arith) (row-above 14 m _ _ (omega arith) none-else))
+  from-four resync = row-above 7 m _ _ (omega arith) (row-above 8 m _ _ (omega arith) none-else)
+  from-four rebuild = row-above 12 m _ _ (omega arith) (row-above 14 m _ _ (omega arith) none-else)
+  from-four newLog = row-above 12 m _ _ (omega arith) (row-above 13 m _ _ (omega arith) none-else)
+  from-four fullResync = row-above 8 m _ _ (omega arith) none-else
 
 pub never-given : (g : Geometry) → badMeasures g ≡ false → (h : Lent) (b : Book) → Reached g h b → (c : Call) (m : ℕ) → 0 < m → m < 4
     → numberOf (h .shelf) (length (h .array)) (length (h .log)) (h .list) c ≢ m

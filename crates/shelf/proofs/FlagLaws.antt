@@ -1,39 +1,19 @@
--- Walks over the flags of the members: a turn of the walk is a step of the count, or of the search.
+-- Walks over the flags of the members: a turn of the walk is a step of the search.
 -- Assumes nothing.
 use mathlib.Core.Bool.{Bool, true, false, _&&_, _||_}
 use mathlib.Core.List.{List}
-use mathlib.Core.Path.{_≡_, refl, sym, ap, ap₂, _∙_}
+use mathlib.Core.Path.{_≡_, sym, ap, ap₂, _∙_}
 use Prim.Native.Nat.{ℕ, suc, _+_, _≤_}
-use native.Mathlib.Nat.{add-zero}
 use native.Mathlib.Omega.{arith}
 use borrow.Author.Tests.{le-leb, lt-leb}
-use Rattle.shelf.specs.Counting.{bit, count, any}
+use Rattle.shelf.specs.Counting.{any}
 use Rattle.shelf.specs.Lent.{flag, flagFrom}
+use Rattle.shelf.proofs.TestLaws.{or-true, or-false}
 use Rattle.shelf.proofs.CountLaws.{none-any, any-ext}
-
-next-count : (i : ℕ) (f : ℕ → Bool) → count (i + 1) f ≡ count i f + bit (f i)
-unfolding count
-next-count i f = let q : i + 1 ≡ suc i = omega arith in ap (λ (n : ℕ). count n f) q
-
-pub count-one : (i : ℕ) (f : ℕ → Bool) (sum : ℕ) → sum ≡ count i f → f i ≡ true → sum + 1 ≡ count (i + 1) f
-unfolding bit
-count-one i f sum e t = ap (λ (n : ℕ). n + 1) e ∙ ap (λ (u : Bool). count i f + bit u) (sym t) ∙ sym (next-count i f)
-
-pub count-same : (i : ℕ) (f : ℕ → Bool) (sum : ℕ) → sum ≡ count i f → f i ≡ false → sum ≡ count (i + 1) f
-unfolding bit
-count-same i f sum e t = e ∙ sym (add-zero (count i f)) ∙ ap (λ (u : Bool). count i f + bit u) (sym t) ∙ sym (next-count i f)
 
 next-any : (i : ℕ) (f : ℕ → Bool) → any (i + 1) f ≡ (any i f || f i)
 unfolding any
 next-any i f = let q : i + 1 ≡ suc i = omega arith in ap (λ (n : ℕ). any n f) q
-
-or-true : (a : Bool) → (a || true) ≡ true
-or-true true = refl
-or-true false = refl
-
-or-false : (a : Bool) → (a || false) ≡ a
-or-false true = refl
-or-false false = refl
 
 module _ (fs : List Bool) (low : ℕ) where
   -- nothing is found before the first member that is looked at

@@ -12,8 +12,9 @@ use Rattle.shelf.specs.Words.{bytesOf}
 use Rattle.shelf.specs.HashList.{noneWord}
 use Rattle.shelf.specs.Lent.{Lent, lent, badMeasures, badLengths, freshRecord, formatCode, formatted, formatLeaves}
 use Rattle.shelf.specs.declared.record.Shelf.{Shelf}
-use Rattle.shelf.proofs.CountLaws.{choose-true, choose-false}
-use Rattle.shelf.proofs.InputLaws.{row-zero, lengths-pass}
+use Rattle.shelf.proofs.TestLaws.{choose-true, choose-false}
+use Rattle.shelf.proofs.InputLaws.{lengths-pass}
+use Rattle.shelf.proofs.TableRows.{row-zero}
 
 -- bytes of 255 are words of none
 pub none-bytes : (k : ℕ) → bytesOf (replicate k noneWord) ≡ replicate (4 * k) 255

@@ -25,7 +25,7 @@ use Rattle.shelf.specs.Sequence.{Fed, Changed}
 use Rattle.shelf.specs.declared.record.Geometry.{Geometry}
 use Rattle.shelf.specs.declared.record.Shelf.{Shelf}
 use Rattle.shelf.proofs.CountLaws.{none-any}
-use Rattle.shelf.proofs.InputLaws.{row-pass}
+use Rattle.shelf.proofs.TableRows.{row-pass}
 use Rattle.shelf.proofs.LayoutLaws.{array-length, array-back, log-length, log-back, role-data, role-p, role-q, flags-length, flag-back}
 use Rattle.shelf.proofs.ListedLaws.{marksIn-ext}
 use Rattle.shelf.proofs.Agreement.{Agrees, Alike, alike-agrees}

@@ -3,7 +3,7 @@
 use mathlib.Core.Bool.{Bool, true, false, not, _||_}
 use mathlib.Core.List.{List}
 use mathlib.Core.Logic.{_≢_}
-use mathlib.Core.Path.{_≡_, refl, sym, ap, _∙_}
+use mathlib.Core.Path.{_≡_, refl, sym}
 use Prim.Native.Nat.{ℕ, _+_, _*_, _≤_}
 use native.Mathlib.Nat.{mul-le-mul}
 use native.Mathlib.Omega.{arith}
@@ -11,33 +11,13 @@ use lib.Dec.{eqb, ltb}
 use lib.ListN.{length}
 use borrow.Author.Tests.{eqb-true, ltb-false}
 use Rattle.shelf.specs.Members.{InRange}
-use Rattle.shelf.specs.Status.{row}
 use Rattle.shelf.specs.Words.{words}
 use Rattle.shelf.specs.HashList.{Measures, valid}
 use Rattle.shelf.specs.Lent.{outside, badMeasures, badRecord, badLengths, badList, arrayLength, logLength, listLength, inputRows}
 use Rattle.shelf.specs.declared.record.Geometry.{Geometry}
 use Rattle.shelf.specs.declared.record.Shelf.{Shelf}
-use Rattle.shelf.proofs.CountLaws.{or-left, or-right}
-
--- ---- rows
-
--- a row that applies is answered, and one that does not is passed over
-pub row-hit : (n : ℕ) (t : Bool) (rest : ℕ) → t ≡ true → n ≡ row n t rest
-unfolding row
-row-hit n t rest e = sym (ap (λ (u : Bool). row n u rest) e)
-
-pub row-pass : (n : ℕ) (t : Bool) (rest m : ℕ) → t ≡ false → m ≡ rest → m ≡ row n t rest
-unfolding row
-row-pass n t rest m e q = q ∙ sym (ap (λ (u : Bool). row n u rest) e)
-
-pub row-zero : (n : ℕ) (t : Bool) (rest : ℕ) → n ≢ 0 → row n t rest ≡ 0 → (t ≡ false) × (rest ≡ 0)
-unfolding row
-row-zero n true rest z e = absurd (z e)
-row-zero n false rest z e = (refl, e)
-
-pub not-off : (t : Bool) → not t ≡ false → t ≡ true
-not-off true e = refl
-not-off false e = sym e
+use Rattle.shelf.proofs.TableRows.{row-zero, row-pass, row-same}
+use Rattle.shelf.proofs.TestLaws.{not-off, or-left, or-right}
 
 -- ---- measures
 
@@ -144,11 +124,6 @@ inputs-then r na nl l rest e =
     let d = row-zero 3 (badList r l) 0 (λ z. omega arith) (c .1) in
     sym (row-pass 1 (badMeasures (r .geometry)) _ rest (a .0) (row-pass 1 (badRecord r) _ rest (b .0)
     (row-pass 2 (badLengths (r .geometry) na nl (length l)) _ rest (c .0) (row-pass 3 (badList r l) rest rest (d .0) refl))))
-
-row-same : (n : ℕ) (t : Bool) (a b : ℕ) → n ≢ 0 → (a ≢ 0 → b ≡ a) → row n t a ≢ 0 → row n t b ≡ row n t a
-unfolding row
-row-same n true a b z q e = refl
-row-same n false a b z q e = q e
 
 pub inputs-refuse : (r : Shelf) (na nl : ℕ) (l : List ℕ) (rest : ℕ) → inputRows r na nl l true 0 ≢ 0
     → inputRows r na nl l true 0 ≡ inputRows r na nl l true rest

@@ -19,7 +19,8 @@ use Rattle.shelf.specs.Members.{roleP, memberAt}
 use Rattle.shelf.specs.State.{State}
 use Rattle.shelf.specs.Lent.{arrayBlock, arrayLength, logLength, roleOf, roleBlock, arrayOf, logOf, flagsFrom, flagsOf}
 use Rattle.shelf.specs.declared.record.Geometry.{Geometry}
-use Rattle.shelf.proofs.CountLaws.{choose-true, choose-false, any-some, first-le}
+use Rattle.shelf.proofs.CountLaws.{any-some, first-le}
+use Rattle.shelf.proofs.TestLaws.{choose-true, choose-false}
 
 -- ---- blocks of bytes by blocks
 

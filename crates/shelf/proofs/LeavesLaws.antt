@@ -3,7 +3,6 @@
 use mathlib.Core.Bool.{Bool, true, false, _&&_}
 use mathlib.Core.List.{List}
 use mathlib.Core.Logic.{_≢_}
-use mathlib.Core.Option.{Option, none, some}
 use mathlib.Core.Path.{_≡_, refl, sym, ap, _∙_, subst}
 use Prim.Native.Nat.{ℕ, _+_, _<_}
 use native.Mathlib.Decide.{ℕ-discrete}
@@ -11,16 +10,14 @@ use native.Mathlib.Omega.{arith}
 use lib.Dec.{eqb}
 use lib.ListN.{length, getD, set, length-set}
 use lib.Seq.{getD-set-same, getD-set-other}
-use borrow.Author.Tests.{eq-eqb}
 use Rattle.shelf.specs.Counting.{choose, setAt}
 use Rattle.shelf.specs.Members.{logMember}
 use Rattle.shelf.specs.State.{State, listed, marksIn}
 use Rattle.shelf.specs.Status.{Call, start, fail, newLog}
 use Rattle.shelf.specs.Calls.{modeFailed, work}
 use Rattle.shelf.specs.HashList.{valid}
-use Rattle.shelf.specs.Lent.{Lent, lent, flag, flagAt, stateOf, arrayBlock, roleBlock, flagsOf, sameRecord, numberOf, triesList, Leaves, Answered}
+use Rattle.shelf.specs.Lent.{Lent, lent, flag, flagAt, stateOf, arrayBlock, roleBlock, flagsOf, numberOf, triesList, Leaves, Answered}
 use Rattle.shelf.specs.Records.{withMode, modeThen, withFailed, withRenewed}
-use Rattle.shelf.specs.declared.record.Geometry.{Geometry}
 use Rattle.shelf.specs.declared.record.Shelf.{Shelf}
 use Rattle.shelf.proofs.CountLaws.{setAt-here, setAt-other}
 use Rattle.shelf.proofs.InputLaws.{Passed, inputs-pass}
@@ -32,9 +29,6 @@ abbrev pub turned : State → ℕ → (ℕ → Bool) → State
 turned s m f = record { disk = s .disk; p = s .p; q = s .q; log = s .log; mode = m; failed = f }
 
 module _ (r : Shelf) (a n l : List ℕ) (P : Passed r (length a) (length n) l) where
-  abbrev g : Geometry
-  g = r .geometry
-
   -- the list has as many entries as the record says
   pub marks-here : marksIn (r .geometry) (listed (stateOf (lent r a n l) .log)) ≡ r .listed
   unfolding stateOf
@@ -71,12 +65,6 @@ set-flags fs j t e h =
       | yes q ↦ ap (λ (k : ℕ). getD (set fs j t) k false) q ∙ getD-set-same fs j t false (omega (arith, e)) ∙ sym (setAt-here j t (flag fs) i q)
       | no q ↦ getD-set-other fs j i t false q ∙ sym (setAt-other j t (flag fs) i q)
     ])
-
--- a log that stays says the same of every block
-same-self : (o : Option ℕ) → sameRecord o o ≡ true
-unfolding sameRecord
-same-self none = refl
-same-self (some r) = eq-eqb r r refl
 
 -- ---- the three calls, accepted; and any call, refused
 

@@ -8,7 +8,8 @@ use native.Mathlib.Omega.{arith}
 use Rattle.shelf.specs.Counting.{count}
 use Rattle.shelf.specs.State.{Log, isSome, listed, stale, marksIn}
 use Rattle.shelf.specs.declared.record.Geometry.{Geometry}
-use Rattle.shelf.proofs.CountLaws.{clash, or-left, or-right, or-true, count-ext, total-ext, any-ext, count-zero, total-zero, none-count, none-total}
+use Rattle.shelf.proofs.CountLaws.{count-ext, total-ext, any-ext, count-zero, total-zero, none-count, none-total}
+use Rattle.shelf.proofs.TestLaws.{clash, or-left, or-right, or-true}
 
 -- ---- a record that is there, or not
 

@@ -15,7 +15,8 @@ use Rattle.shelf.specs.Status.{arrayFailed, logFailed}
 use Rattle.shelf.specs.Calls.{made, unlistedWritten, unlistedOthers, reconstructs, preRead, recordsFor, placesFor, logs, Appended, overwritten, oriAppended, curAppended, logged, writeStripe}
 use Rattle.shelf.specs.Book.{Book, unmarkedWritten, unmarkedOthers, marked, usedThen, markStripe}
 use Rattle.shelf.specs.declared.record.Geometry.{Geometry}
-use Rattle.shelf.proofs.CountLaws.{cases, clash, and-left, and-right, or-true, choose-true, choose-false, setAt-same, setAt-other, setRow-here, setRow-other, count-ext, any-found, total-at, count-add}
+use Rattle.shelf.proofs.CountLaws.{setAt-same, setAt-other, setRow-here, setRow-other, count-ext, any-found, total-at, count-add}
+use Rattle.shelf.proofs.TestLaws.{cases, clash, and-left, and-right, or-true, choose-true, choose-false}
 use Rattle.shelf.proofs.ListedLaws.{never-some, not-some, none-is, unlisted, marksIn-ext, marks-none}
 use Rattle.shelf.proofs.Agreement.{AreBlocks, Nearly, Agrees, all-sound}
 use Rattle.shelf.proofs.SettleLaws.{made-agrees}

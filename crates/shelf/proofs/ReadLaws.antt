@@ -18,7 +18,8 @@ use Rattle.shelf.specs.Status.{read, logFailed, withheld}
 use Rattle.shelf.specs.Calls.{orElse, original, missing, blockAt, served, code}
 use Rattle.shelf.specs.Book.{Book}
 use Rattle.shelf.specs.declared.record.Geometry.{Geometry}
-use Rattle.shelf.proofs.CountLaws.{cases, clash, choose-true, choose-false, any-none, count-more, no-three-roles}
+use Rattle.shelf.proofs.CountLaws.{any-none, count-more, no-three-roles}
+use Rattle.shelf.proofs.TestLaws.{cases, clash, choose-true, choose-false}
 use Rattle.shelf.proofs.RowParity.{worked-exact}
 use Rattle.shelf.proofs.ListedLaws.{opt-cases, some-is, unlisted, ori-listed, none-listed}
 use Rattle.shelf.proofs.Agreement.{Nearly, positive}

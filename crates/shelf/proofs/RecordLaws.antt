@@ -1,8 +1,8 @@
 -- The record by its fields.
 -- Assumes nothing.
-use mathlib.Core.Bool.{Bool, true, false, _&&_}
+use mathlib.Core.Bool.{Bool, true, _&&_}
 use mathlib.Core.Logic.{_≢_}
-use mathlib.Core.Path.{_≡_, refl, sym, ap, ap₂, _∙_}
+use mathlib.Core.Path.{_≡_, sym, ap, ap₂, _∙_}
 use Prim.Native.Nat.{ℕ, _+_}
 use lib.Dec.{eqb}
 use lib.ListN.{set}
@@ -11,11 +11,7 @@ use Rattle.shelf.specs.Counting.{choose}
 use Rattle.shelf.specs.Calls.{nextLeft, modeLeft}
 use Rattle.shelf.specs.Records.{modeThen, withFailed, withListed}
 use Rattle.shelf.specs.declared.record.Shelf.{Shelf}
-use Rattle.shelf.proofs.CountLaws.{choose-true, choose-false}
-
-and-off : (t : Bool) → (t && false) ≡ false
-and-off true = refl
-and-off false = refl
+use Rattle.shelf.proofs.TestLaws.{and-false, choose-true, choose-false}
 
 -- records that differ in mode and next
 same-but : (r : Shelf) (n m m' x x' : ℕ) → m ≡ m' → x ≡ x'
@@ -35,7 +31,7 @@ pub none-left-then : (r : Shelf) (n : ℕ) → n ≡ 0 → r .mode ≢ 2
     → _≡_ {A = Shelf} (record { geometry = r .geometry; mode = r .mode; next = 0; listed = n; failed = r .failed }) (withListed r n)
 none-left-then r n e m =
     same-but r n (r .mode) (modeLeft n (r .mode)) 0 (nextLeft n (r .next))
-    (sym (choose-false (eqb n 0 && eqb (r .mode) 2) 0 (r .mode) (ap (λ (t : Bool). eqb n 0 && t) (ne-eqb (r .mode) 2 m) ∙ and-off (eqb n 0))))
+    (sym (choose-false (eqb n 0 && eqb (r .mode) 2) 0 (r .mode) (ap (λ (t : Bool). eqb n 0 && t) (ne-eqb (r .mode) 2 m) ∙ and-false (eqb n 0))))
     (sym (choose-true (eqb n 0) 0 (r .next) (eq-eqb n 0 e)))
 
 pub some-left : (r : Shelf) (n : ℕ) → n ≢ 0
@@ -64,7 +60,7 @@ module _ (r : Shelf) (j : ℕ) where
   pub mode-other : r .mode ≢ 1 → r .mode ≡ modeThen r j
   mode-other m =
       sym (choose-false (eqb j (r .geometry .d + 2) && eqb (r .mode) 1) (choose (eqb (r .listed) 0) 0 2) (r .mode)
-      (ap (λ (t : Bool). eqb j (r .geometry .d + 2) && t) (ne-eqb (r .mode) 1 m) ∙ and-off (eqb j (r .geometry .d + 2))))
+      (ap (λ (t : Bool). eqb j (r .geometry .d + 2) && t) (ne-eqb (r .mode) 1 m) ∙ and-false (eqb j (r .geometry .d + 2))))
 
   pub mode-member : j ≢ r .geometry .d + 2 → r .mode ≡ modeThen r j
   mode-member e =

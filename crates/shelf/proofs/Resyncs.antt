@@ -16,7 +16,8 @@ use Rattle.shelf.specs.Status.{Call, start, fail, write, read, resync, r
 use Rattle.shelf.specs.Calls.{inMode, withFlags, modeLeft, settled, dropped, made, remade, logs, overwritten, logged, writeStripe, written, given, writeTo, resynced, blockAt, parityFailed, arrayCleared, rebuilt, modeFailed, work, after}
 use Rattle.shelf.specs.Book.{Book, closed, bookWork, bookCode, bookAfter}
 use Rattle.shelf.specs.declared.record.Geometry.{Geometry}
-use Rattle.shelf.proofs.CountLaws.{cases, choose-true, choose-false, setAt-other, setRow-here, count-ext, count-zero, any-none, none-any, none-count, count-at, first-le}
+use Rattle.shelf.proofs.CountLaws.{setAt-other, setRow-here, count-ext, count-zero, any-none, none-any, none-count, count-at, first-le}
+use Rattle.shelf.proofs.TestLaws.{cases, choose-true, choose-false}
 use Rattle.shelf.proofs.RowParity.{blockP-ext, blockQ-ext}
 use Rattle.shelf.proofs.ListedLaws.{unlisted, stale-ext, marks-none, none-marks, no-marks}
 use Rattle.shelf.proofs.Agreement.{Agrees}

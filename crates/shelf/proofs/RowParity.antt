@@ -17,7 +17,8 @@ use Rattle.stripe.proofs.Laws.{parityP-ext, parityQ-ext, zeros-obey, made-obeys
 use Rattle.shelf.specs.Counting.{choose, any, first}
 use Rattle.shelf.specs.Members.{IsBlock, blank, column, blockP, blockQ, otherMissing, workedBack, arrayMembers}
 use Rattle.shelf.specs.declared.record.Geometry.{Geometry}
-use Rattle.shelf.proofs.CountLaws.{cases, clash, choose-true, and-left, and-right, any-none, first-le}
+use Rattle.shelf.proofs.CountLaws.{any-none, first-le}
+use Rattle.shelf.proofs.TestLaws.{cases, clash, choose-true, and-left, and-right}
 
 pub blockP-ext : (g : Geometry) (f h : ℕ → List ℕ) → ((i : ℕ) → i < g .d → f i ≡ h i) → blockP g f ≡ blockP g h
 unfolding blockP

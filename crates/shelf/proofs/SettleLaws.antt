@@ -15,7 +15,8 @@ use Rattle.shelf.specs.Status.{row}
 use Rattle.shelf.specs.Calls.{nextLeft, modeLeft, settled, dropped, made}
 use Rattle.shelf.specs.Book.{Marks, Book, closed}
 use Rattle.shelf.specs.declared.record.Geometry.{Geometry}
-use Rattle.shelf.proofs.CountLaws.{cases, clash, and-left, and-right, choose-true, choose-false, setAt-here, setAt-other, setRow-here, setRow-other, count-mono, total-mono}
+use Rattle.shelf.proofs.CountLaws.{setAt-here, setAt-other, setRow-here, setRow-other, count-mono, total-mono}
+use Rattle.shelf.proofs.TestLaws.{cases, clash, and-left, and-right, choose-true, choose-false}
 use Rattle.shelf.proofs.RowParity.{blockP-ext, blockQ-ext}
 use Rattle.shelf.proofs.ListedLaws.{never-some, ori-listed, cur-listed, marksIn-ext, marks-none}
 use Rattle.shelf.proofs.Agreement.{AreBlocks, Nearly, Valid, Agrees}

@@ -15,7 +15,8 @@ use Rattle.shelf.specs.HashList.{addressAt, lookup, valid, staleIn}
 use Rattle.shelf.specs.Checking.{listedIn, lowerStale, leads}
 use Rattle.shelf.proofs.TestLaws.{either-way, not-so, false-is, same-bool, and-both, choose-true, choose-false}
 use Rattle.shelf.proofs.AddressLaws.{stripe-of, index-of, address-is}
-use Rattle.shelf.proofs.WalkLaws.{any-has, any-turn, any-least, first-is, count-ext, hits, count-hits}
+use Rattle.shelf.proofs.WalkLaws.{any-turn, any-least, first-is, hits, count-hits}
+use Rattle.shelf.proofs.CountLaws.{any-some, count-ext}
 use Rattle.shelf.proofs.FoundLaws.{found-address, found-sound}
 
 -- ---- the tests of lower_stale
@@ -51,7 +52,7 @@ stale-at : (w : List ℕ) (g : Geometry) (p : ℕ) → 0 < g .d → p < g .e →
 unfolding staleIn
 stale-at w g p dpos o q =
     let a : ℕ = addressAt w (g .h) p in
-    any-has (g .d) (listedIn w g (a / g .d)) (a % g .d) (mod-lt a dpos)
+    any-some (g .d) (listedIn w g (a / g .d)) (a % g .d) (mod-lt a dpos)
     (lt-ltb (lookup w g (a / g .d * g .d + a % g .d)) (g .e) (rw (address-is a (g .d)) (rw q o)))
 
 -- x is the lowest stripe of the listed places below p, or s
@@ -129,7 +130,7 @@ module _ (w : List ℕ) (g : Geometry) (p a r : ℕ) (q : a ≡ addressAt w (g .
 pub lower-listed : (w : List ℕ) (g : Geometry) (x k r : ℕ) → 0 < k → r ≡ lookup w g (x * g .d + (k - 1)) → r < g .e
     → any k (listedIn w g x) ≡ true
 lower-listed w g x k r o e l =
-    any-has k (listedIn w g x) (k - 1) (omega arith) (lt-ltb (lookup w g (x * g .d + (k - 1))) (g .e) (rw e at l))
+    any-some k (listedIn w g x) (k - 1) (omega arith) (lt-ltb (lookup w g (x * g .d + (k - 1))) (g .e) (rw e at l))
 
 pub lower-unlisted : (w : List ℕ) (g : Geometry) (x k r : ℕ) → 0 < k → r ≡ lookup w g (x * g .d + (k - 1)) → g .e ≤ r
     → any (k - 1) (listedIn w g x) ≡ any k (listedIn w g x)
@@ -180,7 +181,7 @@ module _ (w : List ℕ) (g : Geometry) (next listed : ℕ) (hpos : 0 < g .h) (dp
       let b : ℕ = addressAt w (g .h) r in
       let z : b / g .d * g .d + a % g .d ≡ a = ap (λ (x : ℕ). x * g .d + a % g .d) (sym e) ∙ address-is a (g .d) in
       not-so
-      (sym (any-has (b % g .d) (listedIn w g (b / g .d)) (a % g .d) l
+      (sym (any-some (b % g .d) (listedIn w g (b / g .d)) (a % g .d) l
       (lt-ltb (lookup w g (b / g .d * g .d + a % g .d)) (g .e) (rw z (rw (led-at q s) o)))) ∙ led-first r t)
 
   led-one : (q r : ℕ) → q < r → r < g .e → leads w g q ≡ true → leads w g r ≡ true
@@ -228,7 +229,7 @@ module _ (w : List ℕ) (g : Geometry) (next listed : ℕ) (hpos : 0 < g .h) (dp
       let i : addressAt w (g .h) q % g .d ≡ r .index = ap (λ (j : ℕ). j % g .d) a ∙ index-of x (g .d) (r .index) (r .under) in
       let low : any (addressAt w (g .h) q % g .d) (listedIn w g (addressAt w (g .h) q / g .d)) ≡ false =
       ap₂ (λ (k y : ℕ). any k (listedIn w g y)) i s ∙ r .none-below in
-      any-has (g .e) (λ q. leads w g q && eqb (addressAt w (g .h) q / g .d) x) q there
+      any-some (g .e) (λ q. leads w g q && eqb (addressAt w (g .h) q / g .d) x) q there
       (ap₂ _&&_ (ap₂ (λ (b c : Bool). b && not c) (eq-eqb (lookup w g (addressAt w (g .h) q)) q (ap (λ (j : ℕ). lookup w g j) a)) low)
       (eq-eqb (addressAt w (g .h) q / g .d) x s)))
 

@@ -1,6 +1,6 @@
 -- Laws of the numbers: what an accepted call has passed, and that shelf and book give the same number.
 -- Assumes nothing.
-use mathlib.Core.Bool.{Bool, true, false, _&&_}
+use mathlib.Core.Bool.{Bool, false, _&&_}
 use mathlib.Core.List.{List}
 use mathlib.Core.Path.{_≡_, refl, ap, ap₂, _∙_}
 use Prim.Native.Nat.{ℕ, _+_, _*_, _/_, _%_, _≤_, _<_}
@@ -16,20 +16,11 @@ use Rattle.shelf.specs.Status.{Call, start, fail, write, read, resync, r
 use Rattle.shelf.specs.Calls.{code}
 use Rattle.shelf.specs.Book.{Book, bookCode}
 use Rattle.shelf.specs.declared.record.Geometry.{Geometry}
-use Rattle.shelf.proofs.CountLaws.{or-right, any-ext, any-none}
+use Rattle.shelf.proofs.TableRows.{row-zero, row-ext}
+use Rattle.shelf.proofs.CountLaws.{any-ext, any-none}
+use Rattle.shelf.proofs.TestLaws.{or-right}
 use Rattle.shelf.proofs.ListedLaws.{marksIn-ext, stale-ext}
 use Rattle.shelf.proofs.Agreement.{Nearly, positive}
-
--- a row that did not apply was passed over
-pub row-zero : (n : ℕ) (t : Bool) (rest : ℕ) → (n ≡ 0 → ⊥) → row n t rest ≡ 0 → (t ≡ false) × (rest ≡ 0)
-unfolding row
-row-zero n true rest z e = absurd (z e)
-row-zero n false rest z e = (refl, e)
-
-row-ext : (n : ℕ) (t : Bool) (a b : ℕ) → (t ≡ false → a ≡ b) → row n t a ≡ row n t b
-unfolding row
-row-ext n true a b e = refl
-row-ext n false a b e = e refl
 
 -- an address asked for is in a stripe
 pub in-stripe : (g : Geometry) → 0 < g .d → (a n : ℕ) → badAddress g a n ≡ false → (j : ℕ) → j < n → (a + j) / g .d < g .s

@@ -1,13 +1,12 @@
 -- What one call keeps and gives, for the claim over sequences of calls: the number is the book's, an accepted call keeps the agreement, and what a
 -- read serves or a rebuild stores is what the book holds.
 -- Assumes nothing.
-use mathlib.Core.Bool.{Bool, true, not}
+use mathlib.Core.Bool.{not}
 use mathlib.Core.Path.{_≡_, sym, ap, _∙_}
 use Prim.Native.Nat.{ℕ, _+_, _/_, _%_, _<_}
 use native.Mathlib.Decide.{ℕ-discrete}
 use lib.Dec.{eqb}
 use borrow.Author.Tests.{eq-eqb, ne-eqb}
-use Rattle.shelf.specs.Counting.{count}
 use Rattle.shelf.specs.Members.{InRange}
 use Rattle.shelf.specs.State.{State}
 use Rattle.shelf.specs.Status.{Call, start, fail, write, read, resync, rebuild, newLog, fullResync}
@@ -15,7 +14,7 @@ use Rattle.shelf.specs.Calls.{remade, served, blockAt, parityFailed, reb
 use Rattle.shelf.specs.Book.{Book, bookWork, bookCode, bookAfter}
 use Rattle.shelf.specs.Sequence.{Fed}
 use Rattle.shelf.specs.declared.record.Geometry.{Geometry}
-use Rattle.shelf.proofs.CountLaws.{cases, choose-true, choose-false, none-count}
+use Rattle.shelf.proofs.TestLaws.{cases, choose-true, choose-false}
 use Rattle.shelf.proofs.Agreement.{Agrees}
 use Rattle.shelf.proofs.StatusLaws.{nearly-says}
 use Rattle.shelf.proofs.ReadLaws.{nearly-read}
@@ -81,8 +80,3 @@ module _ {g : Geometry} (Y : InRange g) {s : State} {b : Book} where
   pub rebuild-exact : Agrees g s b → code g rebuild s ≡ 0 → (x i : ℕ) → x < g .s → i < g .d → after g rebuild s .disk x i ≡ b .held x i
   rebuild-exact A z x i hx hi =
       ap (λ (t : State). t .disk x i) (accepted g rebuild s z) ∙ rebuilt-disk g s x i ∙ refill-exact g Y s b A z x i hx hi
-
--- none of n blocks differ, by any test of blocks that passes equal ones
-pub none-differ : {A : Type 0} (same : A → A → Bool) → ((v : A) → same v v ≡ true)
-    → (n : ℕ) (f h : ℕ → A) → ((j : ℕ) → j < n → f j ≡ h j) → count n (λ j. not (same (f j) (h j))) ≡ 0
-none-differ {A} same self n f h e = none-count n _ (λ j l. ap (λ (v : A). not (same v (h j))) (e j l) ∙ ap not (self (h j)))

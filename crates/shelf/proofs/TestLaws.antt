@@ -1,18 +1,58 @@
--- Laws of tests: the two ways a test can go, and choosing by a test.
+-- Laws of tests: how a test can come out, and choosing by a test.
 -- Assumes nothing.
-use mathlib.Core.Bool.{Bool, true, false, _&&_, _||_}
+use mathlib.Core.Bool.{Bool, true, false, not, _&&_, _||_, true≢false}
 use mathlib.Core.Logic.{_⊎_, inl, inr}
-use mathlib.Core.Path.{_≡_, refl, sym}
-use Prim.Native.Nat.{ℕ}
-use native.Mathlib.Omega.{arith}
+use mathlib.Core.Path.{_≡_, refl, sym, ap, _∙_}
 use Rattle.shelf.specs.Counting.{choose}
+
+-- ---- tests
+
+-- by how a test comes out
+pub cases {ℓ} : {P : Type ℓ} (t : Bool) → (t ≡ true → P) → (t ≡ false → P) → P
+cases true y n = y refl
+cases false y n = n refl
+
+pub clash {ℓ} : {P : Type ℓ} {t : Bool} → t ≡ true → t ≡ false → P
+clash p q = absurd (true≢false (sym p ∙ q))
+
+pub and-left : (a b : Bool) → (a && b) ≡ true → a ≡ true
+and-left true b e = refl
+and-left false b e = e
+
+pub and-right : (a b : Bool) → (a && b) ≡ true → b ≡ true
+and-right true b e = e
+and-right false b e = clash e refl
+
+pub or-left : (a b : Bool) → (a || b) ≡ false → a ≡ false
+or-left true b e = e
+or-left false b e = refl
+
+pub or-right : (a b : Bool) → (a || b) ≡ false → b ≡ false
+or-right true b e = clash refl e
+or-right false b e = e
+
+pub or-true : (a : Bool) → (a || true) ≡ true
+or-true true = refl
+or-true false = refl
+
+pub or-false : (a : Bool) → (a || false) ≡ a
+or-false true = refl
+or-false false = refl
+
+pub and-false : (a : Bool) → (a && false) ≡ false
+and-false true = refl
+and-false false = refl
 
 pub either-way : (t : Bool) → (t ≡ true) ⊎ (t ≡ false)
 either-way true = inl refl
 either-way false = inr refl
 
 pub not-so : true ≡ false → ⊥
-not-so e = let z : _≡_ {A = ℕ} 0 1 = cc in omega arith
+not-so e = clash refl e
+
+pub not-off : (t : Bool) → not t ≡ false → t ≡ true
+not-off true e = refl
+not-off false e = sym e
 
 pub false-is : (t : Bool) → (t ≡ true → ⊥) → t ≡ false
 false-is true n = absurd (n refl)
@@ -24,19 +64,14 @@ same-bool false true f b = b refl
 same-bool false false f b = refl
 
 pub and-both : (a b : Bool) → (a && b) ≡ true → (a ≡ true) × (b ≡ true)
-and-both true b q = (refl, q)
-and-both false b q = absurd (not-so (sym q))
+and-both a b q = (and-left a b q, and-right a b q)
 
-pub or-false : (t : Bool) → (t || false) ≡ t
-or-false true = refl
-or-false false = refl
+-- ---- choosing
 
-pub choose-true : {A : Type 0} (t : Bool) (a c : A) → t ≡ true → choose t a c ≡ a
+pub choose-true {ℓ} : {A : Type ℓ} (t : Bool) (a b : A) → t ≡ true → choose t a b ≡ a
 unfolding choose
-choose-true true a c q = refl
-choose-true false a c q = absurd (not-so (sym q))
+choose-true t a b e = ap (λ (t : Bool). choose t a b) e
 
-pub choose-false : {A : Type 0} (t : Bool) (a c : A) → t ≡ false → choose t a c ≡ c
+pub choose-false {ℓ} : {A : Type ℓ} (t : Bool) (a b : A) → t ≡ false → choose t a b ≡ b
 unfolding choose
-choose-false true a c q = absurd (not-so q)
-choose-false false a c q = refl
+choose-false t a b e = ap (λ (t : Bool). choose t a b) e

@@ -1,6 +1,6 @@
 -- Laws of counting, of sums and of the first number that passes a test.
 -- Assumes nothing.
-use mathlib.Core.Bool.{Bool, true, false, _&&_, _||_, or-true}
+use mathlib.Core.Bool.{Bool, true, false, _&&_, _||_}
 use mathlib.Core.Logic.{⊎-elim, _≢_}
 use mathlib.Core.Path.{_≡_, refl, sym, ap, ap₂, _∙_}
 use Prim.Native.Nat.{ℕ, zero, suc, _+_, _*_, _≤_, _<_}
@@ -10,6 +10,7 @@ use lib.Dec.{eqb, ltb}
 use borrow.Author.Tests.{ne-eqb, eqb-true, eqb-false, ltb-true, ltb-false}
 use Rattle.shelf.specs.Counting.{choose, bit, count, total, any, first}
 use Rattle.shelf.proofs.TestLaws.{either-way, not-so, false-is, and-both, or-false, choose-true, choose-false}
+use Rattle.shelf.proofs.CountLaws.{count-ext, any-some, none-any}
 
 -- ---- counting from a on
 
@@ -92,14 +93,6 @@ any-suc : (n : ℕ) (f : ℕ → Bool) → any (suc n) f ≡ (any n f || f n)
 unfolding any
 any-suc n f = refl
 
-pub any-has : (n : ℕ) (f : ℕ → Bool) (i : ℕ) → i < n → f i ≡ true → any n f ≡ true
-any-has zero f i o q = absurd (omega arith)
-any-has (suc n) f i o q =
-    ⊎-elim
-    (λ t. let z : i ≡ n = eqb-true i n t in any-suc n f ∙ ap (λ (b : Bool). any n f || b) (ap f (sym z) ∙ q) ∙ or-true (any n f))
-    (λ t. let z : i ≢ n = eqb-false i n t in any-suc n f ∙ ap (λ (b : Bool). b || f n) (any-has n f i (omega arith) q))
-    (either-way (eqb i n))
-
 pub any-turn : (n j : ℕ) (f : ℕ → Bool) → n ≡ suc j → f j ≡ false → any j f ≡ any n f
 any-turn n j f z q = sym (ap (λ (k : ℕ). any k f) z ∙ any-suc j f ∙ ap (λ (b : Bool). any j f || b) q ∙ or-false (any j f))
 
@@ -124,9 +117,6 @@ any-least (suc n) f q =
     (λ t. record { index = n; under = omega arith; is = ap (λ (b : Bool). b || f n) (sym t) ∙ q; none-below = t })
     (either-way (any n f))
 
-pub any-none : (n : ℕ) (f : ℕ → Bool) → ((i : ℕ) → i < n → f i ≡ false) → any n f ≡ false
-any-none n f g = false-is (any n f) (λ t. let r = any-least n f t in not-so (sym (r .is) ∙ g (r .index) (r .under)))
-
 -- what the first that passes is known by
 pub first-is : (n : ℕ) (f : ℕ → Bool) (x : ℕ) → x ≤ n → (x < n → f x ≡ true) → ((z : ℕ) → z < x → f z ≡ false) → x ≡ first n f
 unfolding first
@@ -141,7 +131,7 @@ first-is (suc n) f x o h l =
     first-is n f x (omega arith) (λ k. h (omega arith)) l ∙ sym (choose-true (any n f) (first n f) (choose (f n) n (suc n)) t))
     (λ t.
     let high : n ≤ x = ⊎-elim (λ k. let o2 : x < n = ltb-true x n k in
-    absurd (not-so (sym (any-has n f x o2 (h (omega arith))) ∙ t))) (λ k. ltb-false x n k) (either-way (ltb x n)) in
+    absurd (not-so (sym (any-some n f x o2 (h (omega arith))) ∙ t))) (λ k. ltb-false x n k) (either-way (ltb x n)) in
     ⊎-elim
     (λ y.
     let is : x ≡ n = ⊎-elim (λ k. absurd (not-so (sym y ∙ l n (ltb-true n x k)))) (λ k. let z = ltb-false n x k in
@@ -155,16 +145,6 @@ first-is (suc n) f x o h l =
     (either-way (any n f))
 
 -- ---- counting the first n
-
-pub count-ext : (n : ℕ) (f g : ℕ → Bool) → ((i : ℕ) → i < n → f i ≡ g i) → count n f ≡ count n g
-unfolding count
-count-ext zero f g q = refl
-count-ext (suc n) f g q = ap₂ _+_ (count-ext n f g (λ i o. q i (omega arith))) (ap bit (q n (omega arith)))
-
-pub total-ext : (n : ℕ) (f g : ℕ → ℕ) → ((i : ℕ) → i < n → f i ≡ g i) → total n f ≡ total n g
-unfolding total
-total-ext zero f g q = refl
-total-ext (suc n) f g q = ap₂ _+_ (total-ext n f g (λ i o. q i (omega arith))) (q n (omega arith))
 
 count-suc : (n : ℕ) (f : ℕ → Bool) → count (suc n) f ≡ count n f + bit (f n)
 unfolding count
@@ -189,10 +169,10 @@ unfolding bit
 count-left n k f t q e h = sym (add-zero k) ∙ count-turn n k f false q (sym h ∙ e)
 
 -- one more passes
-count-add : (n y : ℕ) (f : ℕ → Bool) → y < n → f y ≡ false → count n (λ x. f x || eqb y x) ≡ count n f + 1
+count-one-more : (n y : ℕ) (f : ℕ → Bool) → y < n → f y ≡ false → count n (λ x. f x || eqb y x) ≡ count n f + 1
 unfolding count bit
-count-add zero y f o q = absurd (omega arith)
-count-add (suc n) y f o q =
+count-one-more zero y f o q = absurd (omega arith)
+count-one-more (suc n) y f o q =
     ⊎-elim
     (λ t.
     let z : y ≡ n = eqb-true y n t in
@@ -201,7 +181,7 @@ count-add (suc n) y f o q =
     ∙ ap (λ (k : ℕ). k + 1) (sym (add-zero (count n f))) ∙ ap (λ (b : Bool). count n f + bit b + 1) (sym q ∙ ap f z))
     (λ t.
     let z : y ≢ n = eqb-false y n t in
-    ap₂ _+_ (count-add n y f (omega arith) q) (ap bit (ap (λ (b : Bool). f n || b) t ∙ or-false (f n))) ∙ swap (count n f) (bit (f n)))
+    ap₂ _+_ (count-one-more n y f (omega arith) q) (ap bit (ap (λ (b : Bool). f n || b) t ∙ or-false (f n))) ∙ swap (count n f) (bit (f n)))
     (either-way (eqb y n))
   where
     swap : (a b : ℕ) → a + 1 + b ≡ a + b + 1
@@ -226,11 +206,11 @@ module _ (s : ℕ) (f : ℕ → Bool) (to : ℕ → ℕ) where
       ⊎-elim
       (λ t.
       let fresh : hits n (to n) ≡ false =
-      any-none n (λ q. f q && eqb (to q) (to n))
+      none-any n (λ q. f q && eqb (to q) (to n))
       (λ q o. false-is (f q && eqb (to q) (to n)) (λ u. let b = and-both (f q) (eqb (to q) (to n)) u in
       one q n o (omega arith) (b .0) t (eqb-true (to q) (to n) (b .1)))) in
       count-ext s (hits (suc n)) (λ x. hits n x || eqb (to n) x) (λ x o. ap (λ (b : Bool). hits n x || (b && eqb (to n) x)) t)
-      ∙ count-add s (to n) (hits n) (low n (omega arith) t) fresh ∙ ap₂ (λ (k : ℕ) (b : Bool). k + bit b) ih (sym t) ∙ sym (count-suc n f))
+      ∙ count-one-more s (to n) (hits n) (low n (omega arith) t) fresh ∙ ap₂ (λ (k : ℕ) (b : Bool). k + bit b) ih (sym t) ∙ sym (count-suc n f))
       (λ t.
       count-ext s (hits (suc n)) (hits n) (λ x o. ap (λ (b : Bool). hits n x || (b && eqb (to n) x)) t ∙ or-false (hits n x))
       ∙ ih ∙ sym (add-zero (count n f)) ∙ ap (λ (b : Bool). count n f + bit b) (sym t) ∙ sym (count-suc n f))

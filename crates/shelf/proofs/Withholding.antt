@@ -12,7 +12,8 @@ use Rattle.shelf.specs.Status.{Call, start, fail, write, read, resync, r
 use Rattle.shelf.specs.Book.{Book, bookCode}
 use Rattle.shelf.specs.Sequence.{Withheld, Withholds}
 use Rattle.shelf.specs.declared.record.Geometry.{Geometry}
-use Rattle.shelf.proofs.CountLaws.{clash, and-left, and-right, any-some, any-found}
+use Rattle.shelf.proofs.CountLaws.{any-some, any-found}
+use Rattle.shelf.proofs.TestLaws.{clash, and-left, and-right}
 
 module _ (g : Geometry) (b : Book) where
   -- the test of the status table, of the book

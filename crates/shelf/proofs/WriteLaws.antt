@@ -19,7 +19,8 @@ use Rattle.shelf.specs.Status.{write, arrayFailed}
 use Rattle.shelf.specs.Calls.{writeStripe, written, given, writeTo, work, code}
 use Rattle.shelf.specs.Book.{Marks, Book, markStripe, markTo, putIn, bookWork}
 use Rattle.shelf.specs.declared.record.Geometry.{Geometry}
-use Rattle.shelf.proofs.CountLaws.{cases, and-left, and-right, choose-true, choose-false, any-none}
+use Rattle.shelf.proofs.CountLaws.{any-none}
+use Rattle.shelf.proofs.TestLaws.{cases, and-left, and-right, choose-true, choose-false}
 use Rattle.shelf.proofs.Agreement.{AreBlocks, Agrees, held-ext}
 use Rattle.shelf.proofs.StatusLaws.{write-passed}
 use Rattle.shelf.proofs.LoggedLaws.{stripe-agrees}

@@ -3,7 +3,8 @@
 use borrow.Author.Needs.{needs}
 use mathlib.Core.Path.{_∙_, refl, sym}
 use Rattle.shelf.specs.Lent.{badLengths, badMeasures, formatCode}
-use Rattle.shelf.proofs.InputLaws.{in-range, row-hit, row-pass}
+use Rattle.shelf.proofs.InputLaws.{in-range}
+use Rattle.shelf.proofs.TableRows.{row-hit, row-pass}
 use Rattle.shelf.proofs.status.format_code.Statement.{statement}
 use Rattle.shelf.proofs.status.format_code.Tie as tie
 

@@ -1,14 +1,14 @@
 -- `record::Shelf::count_failed` meets its contract: the sum is the count of the flags looked at so far.
 -- Assumes nothing.
 use borrow.Author.Needs.{needs}
-use mathlib.Core.Bool.{Bool}
+use mathlib.Core.Bool.{Bool, true, false}
 use mathlib.Core.Logic.{⊎-elim}
-use mathlib.Core.Path.{_∙_, _≡_, ap, refl}
+use mathlib.Core.Path.{_≡_, ap, refl, sym, _∙_}
 use Prim.Native.Nat.{_-_, _≤_, ℕ}
 use native.Mathlib.Omega.{arith}
 use Rattle.shelf.specs.Counting.{count}
 use Rattle.shelf.specs.Lent.{flag}
-use Rattle.shelf.proofs.FlagLaws.{count-one, count-same}
+use Rattle.shelf.proofs.WalkLaws.{count-passed, count-left}
 use Rattle.shelf.proofs.record.Shelf.count_failed.Statement.{statement}
 use Rattle.shelf.proofs.record.Shelf.count_failed.Tie as tie
 
@@ -44,7 +44,7 @@ loop-again c =
     let sum = c .before .before .loop .sum in
     let inv = c .before .before .loop .inv in (
       omega arith,
-      ⊎-elim (λ w. (omega arith, w .1 ∙ count-one i f sum (inv .1 .1) (w .0 .taken))) (λ w. (omega arith, w .1 ∙ count-same i f sum (inv .1 .1) (w .0 .left))) (c .if1 .came),
+      ⊎-elim (λ w. (omega arith, w .1 ∙ count-passed i sum f true (inv .1 .1) (sym (w .0 .taken)) refl)) (λ w. (omega arith, w .1 ∙ count-left i sum f false (inv .1 .1) (sym (w .0 .left)) refl)) (c .if1 .came),
     )
 
 returns : tie.Need-returns Inv-loop μ-loop
