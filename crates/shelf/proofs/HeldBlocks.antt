@@ -1,5 +1,4 @@
--- Blocks are blocks: on sound members a shelf that agrees with a book holds b bytes in each place, and an accepted call leaves b bytes in each log
--- record.
+-- On sound members a shelf that agrees with a book holds blocks: lists of b bytes.
 -- Assumes nothing.
 use mathlib.Core.Bool.{false}
 use mathlib.Core.List.{List}
@@ -14,8 +13,6 @@ use Rattle.shelf.specs.Book.{Book}
 use Rattle.shelf.specs.declared.record.Geometry.{Geometry}
 use Rattle.shelf.proofs.RowParity.{gen-block}
 use Rattle.shelf.proofs.Agreement.{Agrees}
-
--- ---- the array
 
 pub blockP-block : (g : Geometry) (row : ℕ → List ℕ) → IsBlock g (blockP g row)
 unfolding blockP

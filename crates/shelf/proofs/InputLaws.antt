@@ -1,4 +1,4 @@
--- Rows 1 to 3: what passing them says of the measures, the record, the lengths and the list; and rows in general, tried one after another.
+-- Rows 1 to 3: what passing them says of the measures, the record, the lengths and the list.
 -- Assumes nothing.
 use mathlib.Core.Bool.{Bool, true, false, not, _||_}
 use mathlib.Core.List.{List}

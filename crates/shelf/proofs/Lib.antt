@@ -2,8 +2,9 @@ pub mod Demand2
 pub mod Demand3
 pub mod FirstNumbers
 pub mod ResyncCount
-pub mod Resyncs
+pub mod LogReuse
 pub mod Examples
+pub mod Resyncs
 pub mod Reaching
 pub mod Holding
 pub mod FreshLaws

@@ -6,13 +6,13 @@
 // words, `list` looks a block up and tests a list for number 3, `entries` gathers a list's entries and writes a list anew, `alter`
 // drops and replaces the entries of a stripe, `waiting` tells which stripes have a listed block. The contracts cite `specs/`:
 // `Lent.antt` has the promise of every call, `Calls.antt` what each does.
-pub mod alter;
-pub mod entries;
-pub mod list;
+mod alter;
+mod entries;
+mod list;
 pub mod record;
-pub mod status;
-pub mod waiting;
-pub mod words;
+mod status;
+mod waiting;
+mod words;
 
 ghost use mathlib.Core.Path.{_≡_};
 ghost use lib.ListN.{length, replicate};
