@@ -183,20 +183,13 @@ sameRecord none (some r) = false
 sameRecord (some r) none = false
 sameRecord (some r) (some t) = eqb r t
 
--- A call alters the list where it changes what the list says of some block; full resync writes it anew in any case.
+-- A call alters the list where it changes what the list says of some block; full resync, which does not look at it, writes it anew in any case.
 unfoldable pub changesList : Geometry → Log → Log → Bool
 changesList g n t =
     any (g .s) (λ x. any (g .d) (λ i. not (sameRecord (n .ori x i) (t .ori x i) && sameRecord (n .cur x i) (t .cur x i))))
 
 unfoldable pub altersList : Geometry → Call → State → Bool
-altersList g start s = changesList g (s .log) (work g start s .log)
-altersList g (fail j) s = changesList g (s .log) (work g (fail j) s .log)
-altersList g (write a n v) s = changesList g (s .log) (work g (write a n v) s .log)
-altersList g (read a n len) s = changesList g (s .log) (work g (read a n len) s .log)
-altersList g resync s = changesList g (s .log) (work g resync s .log)
-altersList g rebuild s = changesList g (s .log) (work g rebuild s .log)
-altersList g newLog s = changesList g (s .log) (work g newLog s .log)
-altersList g fullResync s = true
+altersList g c s = not (triesList c) || changesList g (s .log) (work g c s .log)
 
 -- The promise of every call but format: h is lent, h' handed back.
 pub record Answered (h : Lent) (c : Call) (code : ℕ) (h' : Lent) : Type 0 where

@@ -16,7 +16,7 @@ pub fn find(l: &[u8], g: record::Geometry, a: usize) -> usize
     let mut f = g.e;
     while f > 0 {
         if p >= g.e {
-            return 4294967295;
+            return words::NONE;
         }
         let b = words::word(l, g.h + 4 * p);
         if b == a {
@@ -25,7 +25,7 @@ pub fn find(l: &[u8], g: record::Geometry, a: usize) -> usize
         p = words::word(l, g.h + 4 * p + 3);
         f -= 1;
     }
-    4294967295
+    words::NONE
 }
 
 // Whether the f addresses from a on are listed.
@@ -48,7 +48,7 @@ fn all_listed(l: &[u8], g: record::Geometry, f: usize, a: usize) -> bool
 fn is_record(x: usize, next: usize) -> bool
     ensures { λ r. ⌜ r ≡ isRecord x next ⌝ }
 {
-    x == 4294967295 || x < next
+    x == words::NONE || x < next
 }
 
 // Whether the address, Ori and Cur of place p in slot i's chain are without fault, the rest of its stripe left aside.
@@ -83,8 +83,8 @@ fn good_entry(
     if !is_record(c, next) {
         return false;
     }
-    if o == 4294967295 {
-        return c != 4294967295;
+    if o == words::NONE {
+        return c != words::NONE;
     }
     true
 }
@@ -107,7 +107,7 @@ fn stripe_from(l: &[u8], g: record::Geometry, a: usize) -> bool
         if q >= e {
             return false;
         }
-        if words::word(l, h + 4 * q + 1) == 4294967295 {
+        if words::word(l, h + 4 * q + 1) == words::NONE {
             return true;
         }
     }
@@ -126,7 +126,7 @@ fn good_place(l: &[u8], g: record::Geometry, next: usize, i: usize, p: usize) ->
     if !good_entry(l, g, next, i, p, a, o, c) {
         return false;
     }
-    if o == 4294967295 {
+    if o == words::NONE {
         return stripe_from(l, g, a);
     }
     true
@@ -145,7 +145,7 @@ pub fn check_list(l: &[u8], g: record::Geometry, next: usize, listed: usize) -> 
     let mut fault = false;
     'all: while i < h {
         let mut p = words::word(l, i);
-        while p != 4294967295 {
+        while p != words::NONE {
             if n >= listed {
                 fault = true;
                 break 'all;

@@ -5,6 +5,9 @@ ghost use lib.ListN.{length, getD, set, replicate};
 ghost use Rattle.shelf.specs.Words.{words};
 ghost use Rattle.shelf.specs.HashList.{noneWord};
 
+// The word that means none.
+pub const NONE: usize = 4294967295;
+
 // Word i.
 pub fn word(l: &[u8], i: usize) -> usize
     requires { ⌜ 4 * i + 4 ≤ length (now l) ⌝ }
@@ -37,7 +40,7 @@ pub fn fill_none(l: &mut [u8], k: usize)
 {
     let mut i: usize = 0;
     while i < k {
-        put_word(l, i, 4294967295);
+        put_word(l, i, NONE);
         i += 1;
     }
 }
