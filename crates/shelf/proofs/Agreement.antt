@@ -56,7 +56,7 @@ pub record Nearly (g : Geometry) (s : State) (b : Book) : Type 0 where
   pub two : count (allMembers g) (s .failed) ≤ 2
   pub one : s .mode ≡ 1 → logFailed g (s .failed) ≡ false
 
--- What numbers 1 and 3 ask of a record, beside what `Nearly` and `Agrees` say.
+-- What number 1 asks of a record, beside what `Nearly` and `Agrees` say.
 pub record Valid (g : Geometry) (s : State) : Type 0 where
   pub room : s .log .next ≤ g .l
   pub fits : marksIn g (listed (s .log)) ≤ g .e

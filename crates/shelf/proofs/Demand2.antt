@@ -3,19 +3,38 @@
 -- blocks of a stripe that obeys it are worked back exactly (`recovered-stripe`, of the stripe crate).
 -- Assumes nothing.
 use mathlib.Core.Bool.{false}
-use mathlib.Core.Path.{_≡_, subst}
+use mathlib.Core.Path.{_≡_, _∙_, subst}
 use Prim.Native.Nat.{ℕ, _<_}
 use Rattle.shelf.specs.Members.{roleP, roleQ, memberAt, blockP, blockQ}
-use Rattle.shelf.specs.State.{stale}
+use Rattle.shelf.specs.State.{State, stale}
 use Rattle.shelf.specs.Book.{Book}
 use Rattle.shelf.specs.Lent.{Lent, flagAt, stateOf, arrayBlock, badMeasures}
 use Rattle.shelf.specs.Sequence.{Reached}
 use Rattle.shelf.specs.declared.record.Geometry.{Geometry}
+use Rattle.shelf.proofs.CountLaws.{any-none}
+use Rattle.shelf.proofs.RowParity.{blockP-ext, blockQ-ext}
+use Rattle.shelf.proofs.ListedLaws.{unlisted}
+use Rattle.shelf.proofs.Agreement.{Agrees}
 use Rattle.shelf.proofs.InputLaws.{in-range}
 use Rattle.shelf.proofs.Holding.{Holds}
 use Rattle.shelf.proofs.Reaching.{stands}
-use Rattle.shelf.proofs.Resyncs.{stored-P, stored-Q}
 pub use Rattle.stripe.proofs.Laws.{recovered-stripe}
+
+-- ---- on states: sound parity of a stripe that is not stale is parity of what the book holds
+
+module _ {g : Geometry} {s : State} {b : Book} (A : Agrees g s b) (x : ℕ) (hx : x < g .s) (rest : stale g (b .state .marks) x ≡ false) where
+  held-orig : (i : ℕ) → i < g .d → A .near .orig x i ≡ b .held x i
+  held-orig i hi =
+      A .near .noted .plain x i hx hi
+      (unlisted (s .log) x i (A .near .marks x i hx hi ∙ any-none (g .d) (b .state .marks x) rest i hi) .1)
+
+  stored-P : s .failed (memberAt g x (roleP g)) ≡ false → s .p x ≡ blockP g (b .held x)
+  stored-P f = A .near .p x hx f ∙ blockP-ext g (A .near .orig x) (b .held x) held-orig
+
+  stored-Q : s .failed (memberAt g x (roleQ g)) ≡ false → s .q x ≡ blockQ g (b .held x)
+  stored-Q f = A .near .q x hx f ∙ blockQ-ext g (A .near .orig x) (b .held x) held-orig
+
+-- ---- on what is lent
 
 -- the parity that stripe x has in the array, where its member is sound
 pub record Parity (g : Geometry) (h : Lent) (b : Book) (x : ℕ) : Type 0 where

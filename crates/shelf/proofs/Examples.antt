@@ -67,14 +67,14 @@ gone g s =
     }
 
 -- K8 and K9 begin with K4's stripe, and block 1 is logged as 7
-abbrev pub k4 : State
-k4 = afterAll (small 3) (write 0 3 (1 ∷ 2 ∷ 3 ∷ []) ∷ start ∷ write 1 1 (7 ∷ []) ∷ []) (freshState (small 3))
+abbrev pub k4Logged : State
+k4Logged = afterAll (small 3) (write 0 3 (1 ∷ 2 ∷ 3 ∷ []) ∷ start ∷ write 1 1 (7 ∷ []) ∷ []) (freshState (small 3))
 
 abbrev pub k8 : State
-k8 = gone (small 3) (afterAll (small 3) (fail 0 ∷ fail 1 ∷ []) k4)
+k8 = gone (small 3) (afterAll (small 3) (fail 0 ∷ fail 1 ∷ []) k4Logged)
 
 abbrev pub k9 : State
-k9 = gone (small 3) (afterAll (small 3) (fail 5 ∷ fail 0 ∷ []) k4)
+k9 = gone (small 3) (afterAll (small 3) (fail 5 ∷ fail 0 ∷ []) k4Logged)
 
 -- K12 and K13: n blocks from address 0 on written to an unlisted stripe of d data disks: whether it is reconstruction-write, the records used and the
 -- blocks listed

@@ -1,7 +1,7 @@
 -- The agreement of what is lent with the book: what holds of record and bytes between any two calls. It holds of a fresh shelf, every answered call
 -- keeps it, and so do failed members' bytes that change.
 -- Assumes nothing.
-use mathlib.Core.Bool.{Bool, true, false, not, _&&_, _||_}
+use mathlib.Core.Bool.{Bool, true, false, not, _||_}
 use mathlib.Core.List.{List}
 use mathlib.Core.Option.{Option}
 use mathlib.Core.Path.{_≡_, refl, sym, ap, ap₂, _∙_, subst, fun-ext}
@@ -10,7 +10,7 @@ use native.Mathlib.Decide.{decLt, ℕ-discrete}
 use native.Mathlib.Omega.{arith}
 use lib.Dec.{eqb, ltb, leb}
 use lib.ListN.{length, List·getD-eq-default}
-use borrow.Author.Tests.{eq-eqb, ne-eqb, le-ltb, leb-true, eqb-true}
+use borrow.Author.Tests.{ne-eqb, le-ltb, leb-true, eqb-true}
 use Rattle.stripe.specs.Blocks.{block}
 use Rattle.shelf.specs.Counting.{bit, count, any}
 use Rattle.shelf.specs.Members.{InRange, logMember}
@@ -20,12 +20,13 @@ use Rattle.shelf.specs.Calls.{code}
 use Rattle.shelf.specs.Book.{Book, bookCode, bookAfter}
 use Rattle.shelf.specs.Words.{words}
 use Rattle.shelf.specs.HashList.{valid}
-use Rattle.shelf.specs.Lent.{Lent, lent, flag, flagFrom, flagAt, stateOf, outside, badMeasures, badRecord, badLengths, badList, arrayLength, logLength, listLength, inputRows, triesList, numberOf, recordOf, flagsOf, arrayOf, logOf, Leaves, Answered}
+use Rattle.shelf.specs.Lent.{Lent, lent, flag, flagFrom, flagAt, stateOf, arrayLength, logLength, listLength, numberOf, recordOf, flagsOf, arrayOf, logOf, Leaves, Answered}
 use Rattle.shelf.specs.Sequence.{Fed, Changed}
 use Rattle.shelf.specs.declared.record.Geometry.{Geometry}
 use Rattle.shelf.specs.declared.record.Shelf.{Shelf}
+use Rattle.shelf.proofs.TestLaws.{and-fine}
 use Rattle.shelf.proofs.CountLaws.{none-any}
-use Rattle.shelf.proofs.TableRows.{row-pass}
+use Rattle.shelf.proofs.InputLaws.{Fine, record-fine, Passed, passed-number}
 use Rattle.shelf.proofs.LayoutLaws.{array-length, array-back, log-length, log-back, role-data, role-p, role-q, flags-length, flag-back}
 use Rattle.shelf.proofs.ListedLaws.{marksIn-ext}
 use Rattle.shelf.proofs.Agreement.{Agrees, Alike, alike-agrees}
@@ -43,20 +44,6 @@ pub record Holds (h : Lent) (b : Book) : Type 0 where
   pub passes : valid (words (h .list)) (h .shelf .geometry) (h .shelf .next) (h .shelf .listed) ≡ true
 
 -- ---- numbers 1, 2 and 3 are not given
-
-inside : (low high x : ℕ) → low ≤ x → x ≤ high → outside low high x ≡ false
-inside low high x a b = ap₂ _||_ (le-ltb x low a) (le-ltb high x b)
-
-measures-fine : (g : Geometry) → InRange g → badMeasures g ≡ false
-unfolding badMeasures
-measures-fine g Y =
-    ap₂ _||_ (inside 2 16 (g .d) (Y .d-least) (Y .d-most)) (ap₂ _||_ (inside 1 65536 (g .s) (Y .s-least) (Y .s-most))
-    (ap₂ _||_ (inside 1 4096 (g .b) (Y .b-least) (Y .b-most)) (ap₂ _||_ (inside 1 65536 (g .l) (Y .l-least) (Y .l-most))
-    (ap₂ _||_ (inside 1 256 (g .h) (Y .h-least) (Y .h-most)) (inside 1 4096 (g .e) (Y .e-least) (Y .e-most))))))
-
-and-fine : (a c : Bool) → (a ≡ true → c ≡ false) → (a && c) ≡ false
-and-fine true c h = h refl
-and-fine false c h = refl
 
 -- no flag from n on: the count is the same
 count-top : (n m : ℕ) (f : ℕ → Bool) → ((i : ℕ) → n ≤ i → f i ≡ false) → count (n + m) f ≡ count n f
@@ -92,37 +79,38 @@ module _ (h : Lent) (b : Book) (small : h .shelf .geometry .d ≤ 16) (H : Holds
       none-any 19 (flagFrom (r .failed) (g .d + 3))
       (λ i _. and-fine (leb (g .d + 3) i) (flagAt r i) (λ t. A .valid .top i (leb-true (g .d + 3) i t)))
 
-  record-fine : badRecord r ≡ false
-  unfolding badRecord stateOf
-  record-fine =
-      ap₂ _||_ (le-ltb 2 (r .mode) (A .valid .modes)) (ap₂ _||_ none-above
-      (ap₂ _||_ (le-ltb 2 (count 19 (flagAt r)) (omega (arith, flags-count, A .near .two)))
-      (ap₂ _||_ (le-ltb (g .l) (r .next) (A .valid .room)) (ap₂ _||_ (le-ltb (g .e) (r .listed) (omega (arith, H .listed-are, A .valid .fits)))
-      (ap₂ _||_ (and-fine (eqb (r .listed) 0) (ltb 0 (r .next)) (λ e. le-ltb 0 (r .next) (omega (arith, A .idle (none-listed e) .0))))
-      (ap₂ _||_ (and-fine (eqb (r .mode) 0) (ltb 0 (r .listed)) (λ e. le-ltb 0 (r .listed) (omega (arith, H .listed-are, A .valid .zero (eqb-true (r .mode) 0 e)))))
-      (ap₂ _||_ (and-fine (eqb (r .mode) 2) (eqb (r .listed) 0) (λ e. ne-eqb (r .listed) 0 (λ z. A .idle (sym (H .listed-are) ∙ z) .1 (eqb-true (r .mode) 2 e))))
-      (and-fine (eqb (r .mode) 1) (flagAt r (logMember g)) (λ e. A .near .one (eqb-true (r .mode) 1 e))))))))))
+  fine : Fine r
+  unfolding stateOf
+  fine =
+      record {
+        modes = le-ltb 2 (r .mode) (A .valid .modes);
+        above = none-above;
+        few = le-ltb 2 (count 19 (flagAt r)) (omega (arith, flags-count, A .near .two));
+        room = le-ltb (g .l) (r .next) (A .valid .room);
+        fits = le-ltb (g .e) (r .listed) (omega (arith, H .listed-are, A .valid .fits));
+        idle = and-fine (eqb (r .listed) 0) (ltb 0 (r .next)) (λ e. le-ltb 0 (r .next) (omega (arith, A .idle (none-listed e) .0)));
+        normal = and-fine (eqb (r .mode) 0) (ltb 0 (r .listed))
+            (λ e. le-ltb 0 (r .listed) (omega (arith, H .listed-are, A .valid .zero (eqb-true (r .mode) 0 e))));
+        transitional = and-fine (eqb (r .mode) 2) (eqb (r .listed) 0)
+            (λ e. ne-eqb (r .listed) 0 (λ z. A .idle (sym (H .listed-are) ∙ z) .1 (eqb-true (r .mode) 2 e)));
+        accelerating = and-fine (eqb (r .mode) 1) (flagAt r (logMember g)) (λ e. A .near .one (eqb-true (r .mode) 1 e));
+      }
 
-  lengths-fine : badLengths g (length (h .array)) (length (h .log)) (length (h .list)) ≡ false
-  unfolding badLengths
-  lengths-fine =
-      ap₂ _||_ (ap not (eq-eqb (length (h .array)) (arrayLength g) (H .array)))
-      (ap₂ _||_ (ap not (eq-eqb (length (h .log)) (logLength g) (H .log))) (ap not (eq-eqb (length (h .list)) (listLength g) (H .list))))
+-- rows 1 to 3 pass
+pub holds-passed : (h : Lent) (b : Book) → InRange (h .shelf .geometry) → Holds h b → Passed (h .shelf) (length (h .array)) (length (h .log)) (h .list)
+holds-passed h b Y H =
+    record { range = Y; fine = record-fine (h .shelf) (fine h b (Y .d-most) H); array = H .array; log = H .log; list = H .list; valid = H .passes }
 
 -- the number that a call gets is the book's
 pub number-book : (h : Lent) (b : Book) → InRange (h .shelf .geometry) → Holds h b → (c : Call)
     → numberOf (h .shelf) (length (h .array)) (length (h .log)) (h .list) c ≡ bookCode (h .shelf .geometry) c b
-unfolding numberOf inputRows stateOf
+unfolding stateOf
 number-book h b Y H c =
-    sym (row-pass 1 (badMeasures (h .shelf .geometry)) _ _ (measures-fine (h .shelf .geometry) Y)
-    (row-pass 1 (badRecord (h .shelf)) _ _ (record-fine h b (Y .d-most) H)
-    (row-pass 2 (badLengths (h .shelf .geometry) (length (h .array)) (length (h .log)) (length (h .list))) _ _ (lengths-fine h b (Y .d-most) H)
-    (row-pass 3 (triesList c && badList (h .shelf) (h .list)) _ _ (and-fine (triesList c) (badList (h .shelf) (h .list)) (λ _. ap not (H .passes)))
-    (sym (says Y (H .agrees) c))))))
+    passed-number (h .shelf) (length (h .array)) (length (h .log)) (h .list) (holds-passed h b Y H) c ∙ says Y (H .agrees) c
 
 -- ---- a state that was left behind is read back
 
-leaves-is : (g : Geometry) (s : State) (h : Lent) → Leaves g s h → h ≡ lent (recordOf g s) (arrayOf g s) (logOf g s) (h .list)
+pub leaves-is : (g : Geometry) (s : State) (h : Lent) → Leaves g s h → h ≡ lent (recordOf g s) (arrayOf g s) (logOf g s) (h .list)
 leaves-is g s h L = λ i. record { shelf = L .shelf i; array = L .array i; log = L .log i; list = h .list }
 
 flags-back : (f : ℕ → Bool) → ((i : ℕ) → 19 ≤ i → f i ≡ false) → (λ (i : ℕ). flag (flagsOf f) i) ≡ f

@@ -4,7 +4,6 @@ pub mod FirstNumbers
 pub mod ResyncCount
 pub mod LogReuse
 pub mod Examples
-pub mod Resyncs
 pub mod Reaching
 pub mod Holding
 pub mod FreshLaws

@@ -6,7 +6,7 @@ use Rattle.shelf.specs.Members.{InRange}
 use Rattle.shelf.specs.Status.{Call}
 use Rattle.shelf.specs.Book.{Book, bookAfter}
 use Rattle.shelf.specs.Lent.{Lent, formatted, Answered}
-use Rattle.shelf.specs.Sequence.{Fed, Changed, Reached, fresh, next}
+use Rattle.shelf.specs.Sequence.{Fed, Changed, Reached, fresh, onward}
 use Rattle.shelf.specs.declared.record.Geometry.{Geometry}
 use Rattle.shelf.specs.declared.record.Shelf.{Shelf}
 use Rattle.shelf.proofs.Holding.{Holds, changed-holds, answered-geometry, answered-holds}
@@ -32,4 +32,4 @@ module _ {g : Geometry} (Y : InRange g) where
 
   pub stands : {h : Lent} {b : Book} → Reached g h b → Stands g h b
   stands fresh = record { geometry = unfold formatted in refl; holds = fresh-holds g Y }
-  stands (next {h} {b} c code h' h'' before fed P changed) = step-stands h b c code h' h'' (stands before) fed P changed
+  stands (onward {h} {b} c code h' h'' before fed P changed) = step-stands h b c code h' h'' (stands before) fed P changed

@@ -43,6 +43,10 @@ pub and-false : (a : Bool) → (a && false) ≡ false
 and-false true = refl
 and-false false = refl
 
+pub and-fine : (a c : Bool) → (a ≡ true → c ≡ false) → (a && c) ≡ false
+and-fine true c h = h refl
+and-fine false c h = refl
+
 pub either-way : (t : Bool) → (t ≡ true) ⊎ (t ≡ false)
 either-way true = inl refl
 either-way false = inr refl

@@ -28,7 +28,7 @@ pub record Book : Type 0 where
 unfoldable pub freshBook : Geometry → Book
 freshBook g = record { held = λ _ _. blank g; failed = λ _. false; state = record { marks = λ _ _. false; used = 0; mode = 0 } }
 
--- Whenever no mark is left, u and mode 2 become 0. A call that takes no mark away has nothing to close.
+-- Whenever no mark is left, u and mode 2 become 0. Start, read, new log, a write that marks and a rebuild that keeps the marks leave nothing to close.
 unfoldable pub closed : Geometry → Marks → Marks
 closed g m =
     record { marks = m .marks; used = nextLeft (marksIn g (m .marks)) (m .used); mode = modeLeft (marksIn g (m .marks)) (m .mode) }

@@ -10,7 +10,7 @@ use lib.ListN.{length, getD}
 use Rattle.shelf.specs.declared.record.Geometry.{Geometry}
 use Rattle.shelf.specs.Counting.{choose, any}
 
--- the measures are in range, and the bytes are h + 4 e words
+-- what the list's functions ask of the measures, and that the bytes are h + 4 e words
 pub record Measures (g : Geometry) (l : List ℕ) : Type 0 where
   pub d0 : 0 < g .d
   pub d1 : g .d ≤ 16

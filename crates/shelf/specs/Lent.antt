@@ -28,7 +28,7 @@ pub record Lent : Type 0 where
   pub list : List ℕ
 
 abbrev pub lent : Shelf → List ℕ → List ℕ → List ℕ → Lent
-lent r a g l = record { shelf = r; array = a; log = g; list = l }
+lent r a n l = record { shelf = r; array = a; log = n; list = l }
 
 -- the flag of member i, out of the flags; and out of the flags from member low on
 abbrev pub flag : List Bool → ℕ → Bool
@@ -127,7 +127,7 @@ unfoldable pub inputRows : Shelf → ℕ → ℕ → List ℕ → Bool → ℕ �
 inputRows r na nl l three rest =
     row 1 (badMeasures (r .geometry)) (row 1 (badRecord r) (row 2 (badLengths (r .geometry) na nl (length l)) (row 3 (three && badList r l) rest)))
 
--- the blocks that the list has entries of
+-- the blocks that a list which passes has entries of
 abbrev pub listedBy : Geometry → List ℕ → ℕ → ℕ → Bool
 listedBy g l x i = isSome (oriBy g l x i) || isSome (curBy g l x i)
 
@@ -138,7 +138,7 @@ numberOf r na nl l c =
 
 -- ---- a state, laid out
 
--- f 0, f 1, .., f (n - 1), and the flags of the nineteen members
+-- f i, f (i + 1), .., n of them; and the flags of the nineteen members
 unfoldable pub flagsFrom : ℕ → ℕ → (ℕ → Bool) → List Bool
 flagsFrom i zero f = []
 flagsFrom i (suc n) f = f i ∷ flagsFrom (suc i) n f

@@ -55,17 +55,18 @@ pub data Sequence (g : Geometry) : List Call → Lent → Type 0 where
 -- What some sequence reaches from a fresh shelf, and its book.
 pub data Reached (g : Geometry) : Lent → Book → Type 0 where
   fresh : Reached g (formatted g) (freshBook g)
-  next : {h : Lent} {b : Book} (c : Call) (code : ℕ) (h' h'' : Lent) → Reached g h b → Fed c → Answered h c code h' → Changed g h' h''
+  onward : {h : Lent} {b : Book} (c : Call) (code : ℕ) (h' h'' : Lent) → Reached g h b → Fed c → Answered h c code h' → Changed g h' h''
       → Reached g h'' (bookAfter g c b)
 
 -- n resyncs in a row, from h to h', after each of which failed members' bytes may change
 pub data Resyncs (g : Geometry) : ℕ → Lent → Lent → Type 0 where
-  none : {h : Lent} → Resyncs g zero h h
+  stop : {h : Lent} → Resyncs g zero h h
   more : {n : ℕ} {h h' : Lent} (code : ℕ) (h₁ h₂ : Lent) → Answered h resync code h₁ → Changed g h₁ h₂ → Resyncs g n h₂ h' → Resyncs g (suc n) h h'
 
 -- ---- the claim
 
--- No block that an accepted read hands over, and no block of a data disk that an accepted rebuild filled, differs from the last block written there.
+-- No block that an accepted read hands over, and no block of a data disk that an accepted rebuild filled, differs from the last block written there:
+-- the count of those that differ is nought.
 abbrev pub Exact : Geometry → Call → Lent → Lent → List ℕ → Book → Type 0
 Exact g start h h' out b = Unit {0}
 Exact g (fail j) h h' out b = Unit {0}

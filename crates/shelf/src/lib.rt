@@ -4,14 +4,14 @@
 // Here stand the calls for C. Below them: `record` has the shelf record and its methods, `status` decides the number by which a call is
 // refused, before anything is stored. The list of the blocks whose parity is put off is bytes: `words` reads and writes them as 32-bit
 // words, `list` looks a block up and tests a list for number 3, `entries` gathers a list's entries and writes a list anew, `alter`
-// drops and replaces the entries of a stripe, `waiting` tells which stripes have a listed block. The contracts cite `specs/`:
+// drops and replaces the entries of a stripe, `stale` tells which stripes have a listed block. The contracts cite `specs/`:
 // `Lent.antt` has the promise of every call, `Calls.antt` what each does.
 mod alter;
 mod entries;
 mod list;
 pub mod record;
+mod stale;
 mod status;
-mod waiting;
 mod words;
 
 ghost use mathlib.Core.Path.{_≡_};

@@ -6,7 +6,7 @@ ghost use Rattle.shelf.specs.Counting.{count, any};
 ghost use Rattle.shelf.specs.Lent.{flagAt, flagFrom};
 ghost use Rattle.shelf.specs.Records.{withMode, withFailed, withRenewed, withListed};
 
-// The measures of a shelf, with the letters of its description: d data disks (2 to 16), s stripes (1 to 65,536), blocks of b bytes
+// The measures of a shelf, by the customer's letters: d data disks (2 to 16), s stripes (1 to 65,536), blocks of b bytes
 // (1 to 4,096), a log of l records (1 to 65,536), a list of h hash slots (1 to 256) and e places (1 to 4,096).
 #[repr(C)]
 pub struct Geometry {

@@ -1,4 +1,4 @@
--- `shelf::waiting::count_stale` meets its contract. The loop's invariant: n places of those passed lead their stripe.
+-- `shelf::stale::count_stale` meets its contract. The loop's invariant: n places of those passed lead their stripe.
 -- Assumes nothing.
 use mathlib.Core.Bool.{Bool}
 use mathlib.Core.List.{List}
@@ -12,8 +12,8 @@ use Rattle.shelf.specs.Words.{words}
 use Rattle.shelf.specs.Checking.{leads}
 use Rattle.shelf.proofs.WalkLaws.{count-start, count-passed, count-left}
 use Rattle.shelf.proofs.StaleLaws.{led-count}
-use Rattle.shelf.proofs.waiting.count_stale.Statement.{statement}
-use Rattle.shelf.proofs.waiting.count_stale.Tie as tie
+use Rattle.shelf.proofs.stale.count_stale.Statement.{statement}
+use Rattle.shelf.proofs.stale.count_stale.Tie as tie
 
 abbrev Inv-loop : tie.InvT-loop
 Inv-loop l g e n₀ p₀ n p = (p ≤ g .e) × ((n ≤ p) × (n ≡ count p (leads (words l) g)))

@@ -1,12 +1,12 @@
--- `shelf::waiting::lowest_stale` meets its contract. The loop's invariant: x is the lowest stripe of the listed places passed, or s.
+-- `shelf::stale::lowest_stale` meets its contract. The loop's invariant: x is the lowest stripe of the listed places passed, or s.
 -- Assumes nothing.
 use Prim.Native.Nat.{_-_, _≤_, zero-le}
 use native.Mathlib.Omega.{arith}
 use borrow.Author.Needs.{needs}
 use Rattle.shelf.specs.Words.{words}
 use Rattle.shelf.proofs.StaleLaws.{Lowest, lowest-start, lowest-turn, lowest-done}
-use Rattle.shelf.proofs.waiting.lowest_stale.Statement.{statement}
-use Rattle.shelf.proofs.waiting.lowest_stale.Tie as tie
+use Rattle.shelf.proofs.stale.lowest_stale.Statement.{statement}
+use Rattle.shelf.proofs.stale.lowest_stale.Tie as tie
 
 abbrev Inv-loop : tie.InvT-loop
 Inv-loop l g e x₀ p₀ x p = (p ≤ g .e) × Lowest (words l) g p x

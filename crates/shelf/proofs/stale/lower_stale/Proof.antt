@@ -1,4 +1,4 @@
--- `shelf::waiting::lower_stale` meets its contract.
+-- `shelf::stale::lower_stale` meets its contract.
 -- Assumes nothing.
 use mathlib.Core.List.{List}
 use mathlib.Core.Path.{sym}
@@ -6,8 +6,8 @@ use Prim.Native.Nat.{ℕ}
 use borrow.Author.Needs.{needs}
 use Rattle.shelf.specs.Words.{words}
 use Rattle.shelf.proofs.StaleLaws.{stale-high, stale-other, stale-lower}
-use Rattle.shelf.proofs.waiting.lower_stale.Statement.{statement}
-use Rattle.shelf.proofs.waiting.lower_stale.Tie as tie
+use Rattle.shelf.proofs.stale.lower_stale.Statement.{statement}
+use Rattle.shelf.proofs.stale.lower_stale.Tie as tie
 
 mul-word : tie.Need-mul-word
 mul-word c = search needs

@@ -1,4 +1,4 @@
--- `shelf::waiting::leads_stripe` meets its contract. The loop's invariant: no lower block from index k on is listed.
+-- `shelf::stale::leads_stripe` meets its contract. The loop's invariant: no lower block from index k on is listed.
 -- Assumes nothing.
 use mathlib.Core.Bool.{true, false}
 use mathlib.Core.List.{List}
@@ -12,8 +12,8 @@ use Rattle.shelf.specs.Words.{words}
 use Rattle.shelf.specs.Checking.{listedIn}
 use Rattle.shelf.proofs.WalkLaws.{any-zero}
 use Rattle.shelf.proofs.StaleLaws.{leads-unlisted, leads-by, lower-listed, lower-unlisted}
-use Rattle.shelf.proofs.waiting.leads_stripe.Statement.{statement}
-use Rattle.shelf.proofs.waiting.leads_stripe.Tie as tie
+use Rattle.shelf.proofs.stale.leads_stripe.Statement.{statement}
+use Rattle.shelf.proofs.stale.leads_stripe.Tie as tie
 
 abbrev Inv-loop : tie.InvT-loop
 Inv-loop l g p d h e a b k₀ k =
