@@ -14,7 +14,7 @@ use borrow.Author.Tests.{eq-eqb, ne-eqb, lt-ltb, le-ltb, eqb-true, eqb-false, lt
 use Rattle.shelf.specs.declared.record.Geometry.{Geometry}
 use Rattle.shelf.specs.HashList.{addressAt, oriAt, curAt, lookup, valid, Entry, entry, entryAt, entriesFrom, entries}
 use Rattle.shelf.specs.Rewriting.{sink, dropStripe, keeps, insertE, at3, merged, sunk, Segment}
-use Rattle.shelf.proofs.TestLaws.{either-way, not-so}
+use Rattle.shelf.proofs.TestLaws.{either-way, not-so, and-both, and-false}
 use Rattle.shelf.proofs.ChainLaws.{entryIn, entry-eq}
 use Rattle.shelf.proofs.DecodeLaws.{Rising, Under, rising-less, InE, entries-hit, entries-step}
 use Rattle.shelf.proofs.FoundLaws.{found-address, found-sound}
@@ -187,22 +187,34 @@ gathered-skip p w g k q =
 
 -- place q is kept
 record Kept (w : List ℕ) (g : Geometry) (k q : ℕ) : Type 0 where
+  low : addressAt w (g .h) q / g .d < g .s
   stripe : addressAt w (g .h) q / g .d ≢ k
   first : lookup w g (addressAt w (g .h) q) ≡ q
 
 kept : (w : List ℕ) (g : Geometry) (k q : ℕ) → keeps w g k q ≡ true → Kept w g k q
 unfolding keeps
-kept w g k q t = go (eqb (addressAt w (g .h) q / g .d) k) refl t
+kept w g k q t = go (eqb (addressAt w (g .h) q / g .d) k) refl (both .1)
   where
+    both : (ltb (addressAt w (g .h) q / g .d) (g .s) ≡ true)
+        × ((not (eqb (addressAt w (g .h) q / g .d) k) && eqb (lookup w g (addressAt w (g .h) q)) q) ≡ true)
+    both =
+        and-both (ltb (addressAt w (g .h) q / g .d) (g .s)) (not (eqb (addressAt w (g .h) q / g .d) k) && eqb (lookup w g (addressAt w (g .h) q)) q) t
+
     go : (b : Bool) → eqb (addressAt w (g .h) q / g .d) k ≡ b → (not b && eqb (lookup w g (addressAt w (g .h) q)) q) ≡ true → Kept w g k q
     go true e z = absurd (not-so (sym z))
-    go false e z = record { stripe = eqb-false (addressAt w (g .h) q / g .d) k e; first = eqb-true (lookup w g (addressAt w (g .h) q)) q z }
+    go false e z =
+        record {
+          low = ltb-true (addressAt w (g .h) q / g .d) (g .s) (both .0);
+          stripe = eqb-false (addressAt w (g .h) q / g .d) k e;
+          first = eqb-true (lookup w g (addressAt w (g .h) q)) q z;
+        }
 
 keeps-true : (w : List ℕ) (g : Geometry) (k q : ℕ) → Kept w g k q → keeps w g k q ≡ true
 unfolding keeps
 keeps-true w g k q t =
-    ap₂ (λ (b c : Bool). not b && c) (ne-eqb (addressAt w (g .h) q / g .d) k (t .stripe))
-    (eq-eqb (lookup w g (addressAt w (g .h) q)) q (t .first))
+    ap₂ _&&_ (lt-ltb (addressAt w (g .h) q / g .d) (g .s) (t .low))
+    (ap₂ (λ (b c : Bool). not b && c) (ne-eqb (addressAt w (g .h) q / g .d) k (t .stripe))
+    (eq-eqb (lookup w g (addressAt w (g .h) q)) q (t .first)))
 
 record From (w : List ℕ) (g : Geometry) (k p : ℕ) (x : Entry) : Type 0 where
   place : ℕ
@@ -397,7 +409,7 @@ module _ (w : List ℕ) (g : Geometry) (next listed : ℕ) (hpos : 0 < g .h) (dp
       found-address w g next listed hpos dpos small v (t .address) (t .listed) in
       subst (λ (y : Entry). InE y (gathered (g .e) w g k)) (sym (t .is))
       (gathered-has (g .e) w g k (lookup w g (t .address)) (t .listed)
-      (record { stripe = λ e. r .1 (ap (λ (y : Entry). y .address / g .d) (t .is) ∙ e); first = ap (λ (j : ℕ). lookup w g j) q })))
+      (record { low = found-sound w g next listed hpos dpos small v (t .address) (t .listed) .entry-is .low; stripe = λ e. r .1 (ap (λ (y : Entry). y .address / g .d) (t .is) ∙ e); first = ap (λ (j : ℕ). lookup w g j) q })))
 
 -- ---- the turns of gather
 
@@ -423,16 +435,26 @@ sunk-entry w h p n a o c t u x y z q = q ∙ ap (sink n t) (entry-eq (entry a o 
 
 -- ---- the tests of keeps_place
 
-pub keeps-no : (w : List ℕ) (g : Geometry) (k p a : ℕ) → a ≡ addressAt w (g .h) p → a / g .d ≡ k → keeps w g k p ≡ false
-unfolding keeps
-keeps-no w g k p a x q = simp (eq-eqb (addressAt w (g .h) p / g .d) k (ap (λ (j : ℕ). j / g .d) (sym x) ∙ q))
+module _ (w : List ℕ) (g : Geometry) (k p a : ℕ) (x : a ≡ addressAt w (g .h) p) where
+  abbrev tested : ℕ → Bool
+  tested b = ltb (b / g .d) (g .s) && (not (eqb (b / g .d) k) && eqb (lookup w g b) p)
 
-pub keeps-by : (w : List ℕ) (g : Geometry) (k p a r : ℕ) → a ≡ addressAt w (g .h) p → a / g .d ≢ k → r ≡ lookup w g a
-    → keeps w g k p ≡ eqb r p
-unfolding keeps
-keeps-by w g k p a r x q y =
-    simp (ne-eqb (addressAt w (g .h) p / g .d) k (λ z. q (ap (λ (j : ℕ). j / g .d) x ∙ z)))
-    (ap (λ (j : ℕ). eqb j p) (sym (y ∙ ap (λ (j : ℕ). lookup w g j) x)))
+  keeps-at : keeps w g k p ≡ (ltb (a / g .d) (g .s) && (not (eqb (a / g .d) k) && eqb (lookup w g a) p))
+  unfolding keeps
+  keeps-at = ap tested (sym x)
+
+  pub keeps-far : g .s ≤ a / g .d → keeps w g k p ≡ false
+  keeps-far q = keeps-at ∙ ap (λ (t : Bool). t && (not (eqb (a / g .d) k) && eqb (lookup w g a) p)) (le-ltb (a / g .d) (g .s) q)
+
+  pub keeps-no : a / g .d ≡ k → keeps w g k p ≡ false
+  keeps-no q =
+      keeps-at ∙ ap (λ (t : Bool). ltb (a / g .d) (g .s) && (not t && eqb (lookup w g a) p)) (eq-eqb (a / g .d) k q)
+      ∙ and-false (ltb (a / g .d) (g .s))
+
+  pub keeps-by : (r : ℕ) → a / g .d < g .s → a / g .d ≢ k → r ≡ lookup w g a → keeps w g k p ≡ eqb r p
+  keeps-by r l q y =
+      keeps-at ∙ ap₂ (λ (t u : Bool). t && (not u && eqb (lookup w g a) p)) (lt-ltb (a / g .d) (g .s) l) (ne-eqb (a / g .d) k q)
+      ∙ ap (λ (j : ℕ). eqb j p) (sym y)
 
 -- ---- a stripe's new entries put among those of the other stripes
 
