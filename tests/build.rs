@@ -1,4 +1,4 @@
-//! Links the archives of the library and of the probe, which stand in the folder that KUMIROVE_ARCHIVES names
+//! Links the archives of the stripe, the probe and the shelf, which stand in the folder that KUMIROVE_ARCHIVES names
 //! (../target/staticlib where it is not set).
 
 use std::env;
@@ -18,7 +18,7 @@ fn main() {
     let folder = folder();
     println!("cargo:rerun-if-env-changed=KUMIROVE_ARCHIVES");
     println!("cargo:rustc-link-search=native={}", folder.display());
-    for name in ["stripe", "probe"] {
+    for name in ["stripe", "probe", "shelf"] {
         let archive = folder.join(format!("lib{name}.a"));
         assert!(archive.is_file(), "{} is missing: make it by rt staticlib {name}", archive.display());
         println!("cargo:rerun-if-changed={}", archive.display());

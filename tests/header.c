@@ -1,15 +1,22 @@
-/* A caller of the library that is compiled both as C99 and as C++. It includes the header twice, takes the calls by the
- * types that they have, and exits with 0 if they answer as the header says. */
+/* A caller of the library that is compiled both as C99 and as C++. It includes each header twice, takes the calls by
+ * the types that they have, and exits with 0 if they answer as the headers say. */
 #include "stripe.h"
 #include "stripe.h"
+
+#include "shelf.h"
+#include "shelf.h"
 
 #include <string.h>
 
 typedef uint32_t (*make_call)(uint32_t, uint32_t, uint8_t *, size_t);
 typedef uint32_t (*recover_call)(uint32_t, uint32_t, uint32_t, uint32_t, uint8_t *, size_t);
+typedef struct shelf_answer (*shelf_call)(struct shelf_record, uint8_t *, size_t, uint8_t *, size_t, uint8_t *, size_t);
+typedef struct shelf_answer (*fail_call)(struct shelf_record, size_t, uint8_t *, size_t, uint8_t *, size_t, uint8_t *,
+                                         size_t);
 
-/* Makes a stripe, recovers two blocks of it and has each number answered once. */
-int main(void)
+/* Makes a stripe, recovers two blocks of it and has each number answered once. Hands back the number of the first check
+ * that fails, as the functions below do, or 0. */
+static int stripe_calls(void)
 {
     const make_call make = stripe_make_parity;
     const recover_call recover = stripe_recover;
@@ -28,4 +35,154 @@ int main(void)
     if (recover(3, STRIPE_MIN_BLOCK, 0, 5, stripe, sizeof stripe) != STRIPE_BAD_MEMBER)
         return 5;
     return 0;
+}
+
+/* Compares the compiler's layout of the record and the answer with the library's: numbers of eight bytes in the order
+ * of the header, then nineteen flags of one byte, and no gap before the last. */
+static int shelf_layout(void)
+{
+    const size_t numbers[9] = {
+        offsetof(struct shelf_record, geometry.d), offsetof(struct shelf_record, geometry.s),
+        offsetof(struct shelf_record, geometry.b), offsetof(struct shelf_record, geometry.l),
+        offsetof(struct shelf_record, geometry.h), offsetof(struct shelf_record, geometry.e),
+        offsetof(struct shelf_record, mode),       offsetof(struct shelf_record, next),
+        offsetof(struct shelf_record, listed),
+    };
+    size_t i;
+
+    for (i = 0; i < 9; i++)
+        if (numbers[i] != 8 * i)
+            return 11;
+    if (offsetof(struct shelf_record, failed) != 72 || sizeof(bool) != 1)
+        return 12;
+    if (sizeof(struct shelf_geometry) != 48 || sizeof(struct shelf_record) != 96)
+        return 13;
+    if (offsetof(struct shelf_answer, shelf) != 8 || sizeof(struct shelf_answer) != 104)
+        return 14;
+    return 0;
+}
+
+/* The buffers of a shelf of 3 data disks, 2 stripes, blocks of 5 bytes, 4 log records, 2 slots and 4 places. */
+static uint8_t array[50], log_bytes[20], list[72];
+
+/* Whether all bytes of a buffer are the same one. */
+static int all(const uint8_t *bytes, size_t count, uint8_t byte)
+{
+    size_t i;
+
+    for (i = 0; i < count; i++)
+        if (bytes[i] != byte)
+            return 0;
+    return 1;
+}
+
+/* Whether a record has the geometry of that shelf, these numbers and these failed members, bit i for member i. */
+static int is(struct shelf_record shelf, size_t mode, size_t next, size_t listed, uint32_t failed)
+{
+    const struct shelf_geometry g = shelf.geometry;
+    size_t i;
+
+    for (i = 0; i < SHELF_FLAGS; i++)
+        if (shelf.failed[i] != ((failed >> i & 1) != 0))
+            return 0;
+    return g.d == 3 && g.s == 2 && g.b == 5 && g.l == 4 && g.h == 2 && g.e == 4 && shelf.mode == mode &&
+           shelf.next == next && shelf.listed == listed;
+}
+
+/* Makes a call on that shelf. */
+static struct shelf_answer on(shelf_call call, struct shelf_record shelf)
+{
+    return call(shelf, array, sizeof array, log_bytes, sizeof log_bytes, list, sizeof list);
+}
+
+/* Has a member of that shelf fail. */
+static struct shelf_answer member_of(fail_call call, struct shelf_record shelf, size_t member)
+{
+    return call(shelf, member, array, sizeof array, log_bytes, sizeof log_bytes, list, sizeof list);
+}
+
+/* Puts a word into the list. */
+static void put(size_t offset, uint32_t word)
+{
+    size_t i;
+
+    for (i = 0; i < 4; i++)
+        list[offset + i] = (uint8_t)(word >> (8 * i));
+}
+
+/* Goes through the numbers that a shelf with a listed block answers: block 1, on place 2. */
+static int shelf_listed(struct shelf_record shelf)
+{
+    struct shelf_answer answer;
+
+    put(4 * 1, 2);
+    put(4 * 2 + 16 * 2, 1);
+    put(4 * 2 + 16 * 2 + 4, 0);
+    put(4 * 2 + 16 * 2 + 8, 1);
+    shelf.next = 2;
+    shelf.listed = 1;
+    answer = on(shelf_start, shelf);
+    if (answer.code != SHELF_WRONG_MODE || !is(answer.shelf, SHELF_ACCELERATING, 2, 1, 0))
+        return 31;
+    answer = member_of(shelf_fail, shelf, 5);
+    if (answer.code != SHELF_OK || !is(answer.shelf, SHELF_TRANSITIONAL, 2, 1, 1u << 5))
+        return 32;
+    if (on(shelf_new_log, answer.shelf).code != SHELF_LISTED)
+        return 33;
+    put(4 * 2 + 16 * 2 + 8, 2);
+    if (on(shelf_start, shelf).code != SHELF_BAD_LIST)
+        return 34;
+    return 0;
+}
+
+/* Formats a shelf, starts it, has members fail, and has each number answered once. */
+static int shelf_calls(void)
+{
+    struct shelf_record shelf = {{3, 2, 5, 4, 2, 4}, 9, 9, 9, {true, true, true}};
+    struct shelf_answer answer;
+
+    memset(array, 77, sizeof array);
+    memset(log_bytes, 77, sizeof log_bytes);
+    memset(list, 77, sizeof list);
+    if (on(shelf_start, shelf).code != SHELF_BAD_RECORD)
+        return 21;
+    if (shelf_format(shelf, array, sizeof array, log_bytes, sizeof log_bytes, list, 71).code != SHELF_BAD_LENGTH)
+        return 22;
+    if (!all(array, sizeof array, 77) || !all(log_bytes, sizeof log_bytes, 77) || !all(list, sizeof list, 77))
+        return 23;
+    answer = on(shelf_format, shelf);
+    if (answer.code != SHELF_OK || !is(answer.shelf, SHELF_NORMAL, 0, 0, 0))
+        return 24;
+    if (!all(array, sizeof array, 0) || !all(log_bytes, sizeof log_bytes, 0) || !all(list, sizeof list, 255))
+        return 25;
+    if (on(shelf_new_log, answer.shelf).code != SHELF_NOT_FAILED)
+        return 26;
+    shelf = answer.shelf;
+    answer = member_of(shelf_fail, shelf, 5);
+    if (on(shelf_start, answer.shelf).code != SHELF_LOG_FAILED || on(shelf_new_log, answer.shelf).code != SHELF_OK)
+        return 27;
+    answer = member_of(shelf_fail, answer.shelf, 4);
+    if (answer.code != SHELF_OK || !is(answer.shelf, SHELF_NORMAL, 0, 0, 1u << 5 | 1u << 4))
+        return 28;
+    if (on(shelf_start, answer.shelf).code != SHELF_ARRAY_FAILED ||
+        member_of(shelf_fail, answer.shelf, 4).code != SHELF_ALREADY_FAILED ||
+        member_of(shelf_fail, answer.shelf, 0).code != SHELF_TWO_FAILED ||
+        member_of(shelf_fail, answer.shelf, 6).code != SHELF_BAD_MEMBER)
+        return 29;
+    answer = on(shelf_start, shelf);
+    if (answer.code != SHELF_OK || !is(answer.shelf, SHELF_ACCELERATING, 0, 0, 0))
+        return 30;
+    return shelf_listed(answer.shelf);
+}
+
+/* Goes through both headers. */
+int main(void)
+{
+    int fault = stripe_calls();
+
+    if (fault == 0)
+        fault = shelf_layout();
+    if (fault == 0)
+        fault = shelf_calls();
+    return fault;
 }

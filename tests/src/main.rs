@@ -1,4 +1,4 @@
-//! The tests of the stripe library. Each group calls the archives and compares what they answer and store with
+//! The tests of the library. Each group calls the archives and compares what they answer and store with
 //! published values, or with arithmetic that shares nothing with the library. A line is printed for each group; the
 //! program stops at the first failure, with status 1.
 
@@ -12,6 +12,7 @@ mod published;
 mod random;
 mod recovery;
 mod refusals;
+mod shelf;
 mod stripes;
 
 use std::process::ExitCode;
@@ -23,7 +24,7 @@ pub type Outcome = Result<String, String>;
 type Group = fn(u64) -> Outcome;
 
 /// The groups in the order in which they run.
-const GROUPS: [(&str, Group); 7] = [
+const GROUPS: [(&str, Group); 11] = [
     ("field", field::group),
     ("products", products::group),
     ("examples", examples::group),
@@ -31,6 +32,10 @@ const GROUPS: [(&str, Group); 7] = [
     ("recovery", recovery::group),
     ("refusals", refusals::group),
     ("arrays", arrays::group),
+    ("sessions", shelf::sessions::group),
+    ("tiny shelves", shelf::tiny::group),
+    ("random shelves", shelf::random::group),
+    ("limits", shelf::limits::group),
 ];
 
 /// Runs the groups one after another, up to the first that fails.

@@ -1,0 +1,198 @@
+//! Random shelves against the model: sound ones, ones damaged in one or two ways, and nonsense.
+
+use super::calls::{Buffer, Call, Record, Shelf, Stand};
+use super::lists::{self, pick, List};
+use super::model::{self, Fault, OF_LENGTHS, OF_LIST, OF_MEASURES, OF_RECORD, RANGES};
+use super::records;
+use super::tally::Tally;
+use crate::random::Random;
+use crate::Outcome;
+
+/// How many shelves are tried; each is lent to all four calls.
+const SHELVES: usize = 60_000;
+
+/// The most bytes that a buffer has which is lent whole: a little more than the longest list.
+const WHOLE: usize = 70_000;
+
+/// The most bytes of a buffer of which more is told than there is: the call must refuse it unseen.
+const PART: usize = 512;
+
+/// A shelf before its array and log are filled: the record, the list, and the lengths of the buffers to be told.
+struct Plan {
+    record: Record,
+    list: List,
+    told: [usize; 3],
+}
+
+/// The lengths that the plan's measures ask for, modulo 2^64.
+fn right(plan: &Plan) -> [usize; 3] {
+    model::lengths(plan.record.measures).map(|length| length as usize)
+}
+
+/// A sound shelf.
+fn sound(random: &mut Random) -> Plan {
+    let record = records::valid(records::measures(random), random);
+    let mut plan = Plan { record, list: lists::valid(&record, random), told: [0; 3] };
+    plan.told = right(&plan);
+    plan
+}
+
+/// Tells another length of one buffer: a neighbour, one that 8, 16 or 32 bits take for it, nothing, or anything.
+fn wrong_length(fault: Fault, plan: &mut Plan, random: &mut Random) -> Option<()> {
+    let at = OF_LENGTHS.iter().position(|&other| other == fault)?;
+    let length = plan.told[at];
+    let other = match random.below(6) {
+        0 => length.wrapping_add(1),
+        1 => length.wrapping_sub(1),
+        2 => length.wrapping_add(1 << [8, 16, 32][pick(3, random)]),
+        3 => 0,
+        4 => length.wrapping_add(plan.record.measures.b),
+        _ => random.next() as usize,
+    };
+    plan.told[at] = other;
+    (other != length).then_some(())
+}
+
+/// Damages a sound shelf in the way named, if it allows it. After a damage of the measures the lengths mostly fit them.
+fn damage(fault: Fault, plan: &mut Plan, random: &mut Random) -> Option<()> {
+    if OF_LENGTHS.contains(&fault) {
+        return wrong_length(fault, plan, random);
+    }
+    if OF_LIST.contains(&fault) {
+        return lists::damage(fault, &mut plan.list, &mut plan.record, random);
+    }
+    records::damage(fault, &mut plan.record, random)?;
+    if OF_MEASURES.contains(&fault) && random.below(8) != 0 {
+        plan.told = right(plan);
+    }
+    Some(())
+}
+
+/// One of the faults, as often of the list as of all else.
+fn some_fault(random: &mut Random) -> Fault {
+    match random.below(8) {
+        0 => OF_MEASURES[pick(OF_MEASURES.len(), random)],
+        1 | 2 => OF_RECORD[pick(OF_RECORD.len(), random)],
+        3 => OF_LENGTHS[pick(OF_LENGTHS.len(), random)],
+        _ => OF_LIST[pick(OF_LIST.len(), random)],
+    }
+}
+
+/// A sound shelf damaged in the way named: another one is taken until one allows it, which few don't.
+fn damaged(fault: Fault, random: &mut Random) -> Result<Plan, String> {
+    for _ in 0..10_000 {
+        let mut plan = sound(random);
+        if damage(fault, &mut plan, random).is_some() {
+            return Ok(plan);
+        }
+    }
+    Err(format!("no sound shelf can be damaged to have {fault:?}"))
+}
+
+/// A sound shelf damaged in the way named and, where its measures are still sound, once more in record or lengths.
+fn damaged_twice(fault: Fault, random: &mut Random) -> Result<Plan, String> {
+    let mut plan = damaged(fault, random)?;
+    let faults = [&OF_RECORD[..], &OF_LENGTHS][pick(2, random)];
+    let second = faults[pick(faults.len(), random)];
+    if in_ranges(&plan) {
+        damage(second, &mut plan, random);
+    }
+    Ok(plan)
+}
+
+/// Whether all measures are within their ranges.
+fn in_ranges(plan: &Plan) -> bool {
+    let values = model::values(plan.record.measures);
+    values.into_iter().zip(RANGES).all(|(value, (low, high))| low <= value && value <= high)
+}
+
+/// A shelf with measures that are nonsense, and lengths that fit them or fit what they were. One that might be accepted
+/// and is too long to be lent whole is not taken.
+fn nonsense(random: &mut Random) -> Plan {
+    loop {
+        let mut plan = sound(random);
+        records::garble(&mut plan.record, random);
+        if random.below(2) == 0 {
+            plan.told = right(&plan);
+        }
+        if !in_ranges(&plan) || right(&plan).into_iter().all(|length| length <= WHOLE) {
+            return plan;
+        }
+    }
+}
+
+/// The shelf of a plan: random bytes in array and log. A buffer has as many bytes as are told of it; one of which more
+/// is told than any that may be accepted has a part.
+fn shelf(plan: Plan, random: &mut Random) -> Shelf {
+    let lent = |told: usize| if told <= WHOLE { told } else { PART };
+    let [array, log, list] = plan.told;
+    let mut bytes = plan.list.bytes();
+    bytes.resize(lent(list), 0xff);
+    Shelf {
+        record: plan.record,
+        array: Buffer { bytes: random.bytes(lent(array)), told: array },
+        log: Buffer { bytes: random.bytes(lent(log)), told: log },
+        list: Buffer { bytes, told: list },
+    }
+}
+
+/// A member to fail: mostly one that is there, else next to the last one or nonsense.
+fn some_member(d: usize, random: &mut Random) -> usize {
+    match random.below(8) {
+        0 => d.wrapping_add(3),
+        1 => d.wrapping_add(2),
+        2 => records::above(d.min(16) + 2, random),
+        3 => pick(20, random),
+        _ => pick(d.min(16) + 3, random),
+    }
+}
+
+/// Lends a shelf to all four calls, then to some one after another, the record being handed on. Format is the last of
+/// the four: if it took what it must refuse, the others would most likely have told so before it stores anything.
+fn tried(shelf: &mut Shelf, stand: &mut Stand, tally: &mut Tally, random: &mut Random) -> Result<(), String> {
+    let member = some_member(shelf.record.measures.d, random);
+    for call in [Call::Start, Call::Fail(member), Call::NewLog, Call::Format] {
+        tally.count(call, &stand.as_model(call, shelf)?);
+    }
+    for _ in 0..4 {
+        let call =
+            [Call::Fail(some_member(shelf.record.measures.d, random)), Call::NewLog, Call::Start][pick(3, random)];
+        let found = stand.as_model(call, shelf)?;
+        tally.count(call, &found);
+        shelf.record = model::record_after(call, shelf.record, found.code());
+    }
+    Ok(())
+}
+
+/// A random plan: sound, damaged once (then with the fault that the model is to find), damaged twice, or nonsense.
+fn plan(random: &mut Random) -> Result<(Plan, Option<Fault>), String> {
+    let fault = some_fault(random);
+    Ok(match random.below(8) {
+        0 | 1 => (sound(random), None),
+        2..=5 => (damaged(fault, random)?, Some(fault)),
+        6 => (damaged_twice(fault, random)?, None),
+        _ => (nonsense(random), None),
+    })
+}
+
+/// Tries the random shelves.
+pub fn group(seed: u64) -> Outcome {
+    let random = &mut Random::new(seed, 6);
+    let (mut stand, mut tally) = (Stand::default(), Tally::new());
+    for _ in 0..SHELVES {
+        let (plan, fault) = plan(random)?;
+        let mut shelf = shelf(plan, random);
+        if let Some(fault) = fault {
+            if !model::findings(Call::Start, &shelf).faults.iter().any(|faults| faults.has(fault)) {
+                return Err(format!("the model does not find {fault:?} in a shelf of {shelf}"));
+            }
+        }
+        tried(&mut shelf, &mut stand, &mut tally, random)?;
+    }
+    let least = tally.complete()?;
+    Ok(format!(
+        "{} calls on {SHELVES} shelves, sound, damaged and nonsense; each call with each fault of rows 1 to 3 alone, \
+         {least} times at least; seed {seed}",
+        stand.calls
+    ))
+}

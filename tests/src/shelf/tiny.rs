@@ -1,0 +1,125 @@
+//! Complete walks of tiny shelves: every list of one or two slots and two places over the words that matter, and every
+//! choice of d, mode, failed members and member to fail.
+
+use super::calls::{Buffer, Call, Measures, Record, Shelf, Stand};
+use super::model::{record_after, NONE};
+use crate::Outcome;
+
+/// The words of a list of two places, of a shelf of two blocks where one log record is used: every place and the first
+/// number that is none, every address and the first that is none, the record that is used and one that is not; and
+/// none.
+const PLACES: [u32; 4] = [0, 1, 2, NONE];
+const ADDRESSES: [u32; 4] = [0, 1, 2, NONE];
+const RECORDS: [u32; 3] = [0, 1, NONE];
+
+/// A shelf of one stripe of blocks of one byte.
+fn shelf(d: usize, l: usize, h: usize, e: usize, list: Vec<u8>) -> Shelf {
+    let measures = Measures { d, s: 1, b: 1, l, h, e };
+    Shelf {
+        record: Record { measures, mode: 0, next: 0, listed: 0, failed: [0; 19] },
+        array: Buffer::of((0..d + 2).map(|at| at as u8 + 100).collect()),
+        log: Buffer::of((0..l).map(|at| at as u8 + 200).collect()),
+        list: Buffer::of(list),
+    }
+}
+
+/// Takes the next list: the words are counted up like the digits of a number. Whether there is one.
+fn next_list(digits: &mut [usize], choices: &[&[u32]], list: &mut [u8]) -> bool {
+    for (at, words) in choices.iter().enumerate() {
+        digits[at] = (digits[at] + 1) % words.len();
+        list[4 * at..4 * at + 4].copy_from_slice(&words[digits[at]].to_le_bytes());
+        if digits[at] != 0 {
+            return true;
+        }
+    }
+    false
+}
+
+/// Walks all lists of so many slots, with the counts that are possible; hands back how many lists passed.
+fn all_lists(h: usize, stand: &mut Stand) -> Result<usize, String> {
+    let place: [&[u32]; 4] = [&ADDRESSES, &RECORDS, &RECORDS, &PLACES];
+    let choices: Vec<&[u32]> = [&PLACES[..]].repeat(h).into_iter().chain(place).chain(place).collect();
+    let mut shelf = shelf(2, 2, h, 2, vec![0; 4 * choices.len()]);
+    let (mut digits, mut passed) = (vec![0; choices.len()], 0);
+    loop {
+        for (mode, next, listed) in [(0, 0, 0), (1, 1, 1), (2, 1, 2)] {
+            (shelf.record.mode, shelf.record.next, shelf.record.listed) = (mode, next, listed);
+            let call = [Call::Start, Call::Fail(1), Call::NewLog][(stand.calls + digits[0]) % 3];
+            passed += usize::from(stand.as_model(call, &shelf)?.code() != 3);
+        }
+        if !next_list(&mut digits, &choices, &mut shelf.list.bytes) {
+            return Ok(passed);
+        }
+    }
+}
+
+/// All sets of at most three of the nineteen flags.
+fn flag_sets() -> Vec<[u8; 19]> {
+    let mut sets = Vec::new();
+    for x in 0..20 {
+        for y in x..20 {
+            for z in y..20 {
+                let mut set = [0; 20];
+                [x, y, z].into_iter().for_each(|member| set[member] = 1);
+                let mut flags = [0; 19];
+                flags.copy_from_slice(&set[..19]);
+                sets.push(flags);
+            }
+        }
+    }
+    sets.sort_unstable();
+    sets.dedup();
+    sets
+}
+
+/// The members that are named beside 0 to 20: numbers that 8, 16 or 32 bits take for one of those, and the greatest
+/// ones.
+const FAR: [usize; 6] = [256, 65536 + 3, 1 << 32, (1 << 63) + 1, usize::MAX - 2, usize::MAX];
+
+/// Walks every d, set of flags, mode with and without a listed block, and call, with every member to fail.
+fn all_members(stand: &mut Stand) -> Result<(), String> {
+    let word = |words: &[u32]| words.iter().flat_map(|word| word.to_le_bytes()).collect::<Vec<u8>>();
+    let lists = [word(&[NONE, 0, 0, NONE, NONE]), word(&[0, 1, 0, NONE, NONE])];
+    let sets = flag_sets();
+    for d in 2..=16 {
+        for (mode, listed) in (0..4).flat_map(|mode| [(mode, 0), (mode, 1)]) {
+            let mut shelf = shelf(d, 1, 1, 1, lists[listed].clone());
+            (shelf.record.mode, shelf.record.next, shelf.record.listed) = (mode, listed, listed);
+            for set in &sets {
+                shelf.record.failed = *set;
+                every_call(&shelf, stand)?;
+            }
+        }
+    }
+    Ok(())
+}
+
+/// Makes the calls of the walk over members on a shelf.
+fn every_call(shelf: &Shelf, stand: &mut Stand) -> Result<(), String> {
+    let started = stand.as_model(Call::Start, shelf)?.code();
+    stand.as_model(Call::NewLog, shelf)?;
+    if started == 1 {
+        stand.as_model(Call::Fail(shelf.record.mode), shelf)?;
+        return stand.as_model(Call::Fail(shelf.record.measures.d + 2), shelf).map(|_| ());
+    }
+    for member in (0..=20).chain(FAR) {
+        let found = stand.as_model(Call::Fail(member), shelf)?;
+        if found.code() == 0 && record_after(Call::Fail(member), shelf.record, 0) == shelf.record {
+            return Err(format!("the model does not note that member {member} of a shelf of {shelf} failed"));
+        }
+    }
+    Ok(())
+}
+
+/// Makes all three walks.
+pub fn group(_seed: u64) -> Outcome {
+    let mut stand = Stand::default();
+    let passed = all_lists(1, &mut stand)? + all_lists(2, &mut stand)?;
+    let lists = stand.calls;
+    all_members(&mut stand)?;
+    Ok(format!(
+        "{lists} calls on all lists of two places, {passed} of them on a sound one; {} on every d, mode, set of failed \
+         members and member to fail",
+        stand.calls - lists
+    ))
+}
