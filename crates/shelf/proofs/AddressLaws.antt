@@ -1,4 +1,4 @@
--- Laws of block addresses: an address is its stripe times d and its data index.
+-- Laws of block addresses: an address is its stripe times d plus its data index.
 -- Assumes nothing.
 use mathlib.Core.Path.{_≡_, ap, _∙_}
 use Prim.Native.Nat.{ℕ, suc, _+_, _*_, _/_, _%_, _≤_, _<_}

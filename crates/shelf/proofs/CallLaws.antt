@@ -13,10 +13,10 @@ use Rattle.shelf.specs.Counting.{choose, bit, count, any, setAt}
 use Rattle.shelf.specs.Members.{InRange, arrayMembers, logMember, allMembers, roleP, roleQ, memberAt, IsBlock}
 use Rattle.shelf.specs.State.{State, isSome, listed, stale, marksIn, lowestStale}
 use Rattle.shelf.specs.Status.{start, fail, resync, rebuild, newLog, fullResync, logFailed}
-use Rattle.shelf.specs.Calls.{inMode, nextLeft, modeLeft, settled, made, remade, resynced, blockAt, parityFailed, arrayCleared, rebuilt, modeFailed, work, code}
+use Rattle.shelf.specs.Calls.{inMode, nextLeft, modeLeft, settled, made, remade, resynced, blockAt, parityFailed, arrayCleared, rebuilt, modeWithout, work, code}
 use Rattle.shelf.specs.Book.{Marks, Book, closed, bookWork}
 use Rattle.shelf.specs.declared.record.Geometry.{Geometry}
-use Rattle.shelf.proofs.CountLaws.{setAt-here, setAt-same, setAt-other, setRow-other, first-ext, any-none, count-mono, count-at, first-le, first-none}
+use Rattle.shelf.proofs.CountLaws.{setAt-here, setAt-same, setAt-other, setRow-other, first-ext, any-none, count-mono, count-at, first-found, first-none}
 use Rattle.shelf.proofs.TestLaws.{cases, clash, or-left, or-right, and-false, choose-true, choose-false}
 use Rattle.shelf.proofs.ListedLaws.{never-some, unlisted, marksIn-ext, stale-ext, marks-none, none-marks, no-marks}
 use Rattle.shelf.proofs.Agreement.{Nearly, Valid, Agrees, all-sound}
@@ -192,7 +192,7 @@ module _ (g : Geometry) (s : State) (b : Book) (A : Agrees g s b) where
           count-at (allMembers g) (setAt j true (s .failed)) (s .failed) j (omega (arith, passed .0)) (λ i _ n. setAt-other j true (s .failed) i n) in
           omega (arith, e, bit-most (setAt j true (s .failed) j), passed .1 .1)
 
-      mode : modeFailed g s j ≡ modeLeft (marksIn g (b .state .marks)) (choose (eqb j (logMember g) && eqb (b .state .mode) 1) 2 (b .state .mode))
+      mode : modeWithout g j (marksIn g (listed (s .log))) (s .mode) ≡ modeLeft (marksIn g (b .state .marks)) (choose (eqb j (logMember g) && eqb (b .state .mode) 1) 2 (b .state .mode))
       mode =
           failed-mode now marks (s .mode) (ap₂ modeLeft same-marks (N .mode) ∙ ap (λ (m : Marks). m .mode) (closed-already g s b A) ∙ sym (N .mode))
           ∙ ap₂ (λ (n m : ℕ). modeLeft n (choose (eqb j (logMember g) && eqb m 1) 2 m)) same-marks (N .mode)
@@ -350,7 +350,7 @@ module _ (g : Geometry) (s : State) (b : Book) (A : Agrees g s b) where
 
       some-stale : any (g .s) (stale g (listed (s .log))) ≡ true → Agrees g (resynced g s) (without low')
       some-stale w =
-          let l : low < g .s = first-le (g .s) _ w .0 in
+          let l : low < g .s = first-found (g .s) _ w .0 in
           let M : Agrees g (made g (inMode s 2) low (s .disk low)) (without low) =
           made-agrees g (inMode s 2) _ (near2 (b .state .marks) (N .marks)) valid2 low l (s .disk low) (b .held) (N .helds)
           (λ i hi. all-sound N (resync-passed g s z) low i l hi) (λ x _ i. refl) in

@@ -12,13 +12,9 @@ use lib.ListN.{length, getD, set, replicate, length-set, length-replicate, getD-
 use lib.Seq.{getD-set-same, getD-set-other}
 use borrow.Author.Tests.{eq-eqb, ne-eqb, lt-ltb, le-ltb, eqb-true, eqb-false}
 use Rattle.shelf.specs.declared.record.Geometry.{Geometry}
-use Rattle.shelf.specs.HashList.{noneWord, addressAt, oriAt, curAt, nextAt, seek, lookup, Entry, entry}
+use Rattle.shelf.specs.HashList.{noneWord, addressAt, oriAt, curAt, nextAt, seek, lookup, Entry, entry, entryIn}
 use Rattle.shelf.specs.Rewriting.{putFront, putAll, encode}
 use Rattle.shelf.proofs.TestLaws.{either-way}
-
--- the entry in place p, behind h slot heads
-abbrev pub entryIn : List ℕ → ℕ → ℕ → Entry
-entryIn w h p = entry (addressAt w h p) (oriAt w h p) (curAt w h p)
 
 -- ---- the cases of seek
 
@@ -103,13 +99,13 @@ Chain w h e p [] = p ≡ noneWord
 Chain w h e p (q ∷ qs) = (p ≡ q) × ((q < e) × Chain w h e (nextAt w h q) qs)
 
 -- all at or above k
-abbrev pub Low : ℕ → List ℕ → Type 0
-Low k [] = Unit {0}
-Low k (q ∷ qs) = (k ≤ q) × Low k qs
+abbrev pub AtLeast : ℕ → List ℕ → Type 0
+AtLeast k [] = Unit {0}
+AtLeast k (q ∷ qs) = (k ≤ q) × AtLeast k qs
 
-pub low-less : (k j : ℕ) (ps : List ℕ) → j ≤ k → Low k ps → Low j ps
-low-less k j [] l o = tt
-low-less k j (q ∷ qs) l o = (omega (arith, o .0), low-less k j qs l (o .1))
+pub atLeast-less : (k j : ℕ) (ps : List ℕ) → j ≤ k → AtLeast k ps → AtLeast j ps
+atLeast-less k j [] l o = tt
+atLeast-less k j (q ∷ qs) l o = (omega (arith, o .0), atLeast-less k j qs l (o .1))
 
 pub entry-eq : (x y : Entry) → x .address ≡ y .address → x .ori ≡ y .ori → x .cur ≡ y .cur → x ≡ y
 entry-eq x y a o c = λ i. record { address = a i; ori = o i; cur = c i }
@@ -201,7 +197,7 @@ module _ (w : List ℕ) (h e p : ℕ) (x : Entry) (hpos : 0 < h) (hp : p < e) (l
   pub front-slot : (s : ℕ) → s < h → s ≢ x .address % h → getD (putFront w h p x) s 0 ≡ getD w s 0
   front-slot s o n = front-other s n (inl (omega arith))
 
-  pub chain-kept : (r : ℕ) (ps : List ℕ) → Low (p + 1) ps → Chain w h e r ps → Chain (putFront w h p x) h e r ps
+  pub chain-kept : (r : ℕ) (ps : List ℕ) → AtLeast (p + 1) ps → Chain w h e r ps → Chain (putFront w h p x) h e r ps
   chain-kept r [] l c = c
   chain-kept r (q ∷ qs) l c = (
     c .0,
@@ -212,7 +208,7 @@ module _ (w : List ℕ) (h e p : ℕ) (x : Entry) (hpos : 0 < h) (hp : p < e) (l
     ),
   )
 
-  pub seek-kept : (f a r : ℕ) (ps : List ℕ) → e ≤ noneWord → Low (p + 1) ps → Chain w h e r ps
+  pub seek-kept : (f a r : ℕ) (ps : List ℕ) → e ≤ noneWord → AtLeast (p + 1) ps → Chain w h e r ps
       → seek f (putFront w h p x) h e a r ≡ seek f w h e a r
   seek-kept zero a r ps b l c = seek-zero (putFront w h p x) h e a r ∙ sym (seek-zero w h e a r)
   seek-kept (suc f) a r [] b l c =
@@ -251,15 +247,15 @@ in-step h s p x xs q =
     ap (λ (t : Bool). elim t as (λ _. List ℕ) [ true ↦ p ∷ placesIn h s (p + 1) xs | false ↦ placesIn h s (p + 1) xs ])
     (ne-eqb (x .address % h) s q)
 
-pub in-low : (h s p : ℕ) (es : List Entry) → Low p (placesIn h s p es)
+pub in-atLeast : (h s p : ℕ) (es : List Entry) → AtLeast p (placesIn h s p es)
 unfolding placesIn
-in-low h s p [] = tt
-in-low h s p (x ∷ xs) =
-    let below : Low p (placesIn h s (p + 1) xs) = low-less (p + 1) p (placesIn h s (p + 1) xs) (omega arith) (in-low h s (p + 1) xs) in
+in-atLeast h s p [] = tt
+in-atLeast h s p (x ∷ xs) =
+    let below : AtLeast p (placesIn h s (p + 1) xs) = atLeast-less (p + 1) p (placesIn h s (p + 1) xs) (omega arith) (in-atLeast h s (p + 1) xs) in
     go (eqb (x .address % h) s) below
   where
-    go : (t : Bool) → Low p (placesIn h s (p + 1) xs)
-        → Low p (elim t as (λ _. List ℕ) [ true ↦ p ∷ placesIn h s (p + 1) xs | false ↦ placesIn h s (p + 1) xs ])
+    go : (t : Bool) → AtLeast p (placesIn h s (p + 1) xs)
+        → AtLeast p (elim t as (λ _. List ℕ) [ true ↦ p ∷ placesIn h s (p + 1) xs | false ↦ placesIn h s (p + 1) xs ])
     go true b = (omega arith, b)
     go false b = b
 
@@ -280,7 +276,7 @@ module _ (h e : ℕ) (hpos : 0 < h) (small : e ≤ 4096) where
       let ih : Chain w h e (getD w s 0) (placesIn h s (p + 1) xs) = chains (p + 1) xs s o (omega arith) in
       let pe : p < e = omega arith in
       let kept : Chain (putFront w h p x) h e (getD w s 0) (placesIn h s (p + 1) xs) =
-      chain-kept w h e p x hpos pe len (getD w s 0) (placesIn h s (p + 1) xs) (in-low h s (p + 1) xs) ih in
+      chain-kept w h e p x hpos pe len (getD w s 0) (placesIn h s (p + 1) xs) (in-atLeast h s (p + 1) xs) ih in
       ⊎-elim
       (λ t.
       let q : x .address % h ≡ s = eqb-true (x .address % h) s t in
@@ -309,7 +305,7 @@ module _ (h e : ℕ) (hpos : 0 < h) (small : e ≤ 4096) where
       let v : List ℕ = putFront w h p x in
       let len : length w ≡ h + 4 * e = length-putN (p + 1) xs in
       let pe : p < e = omega arith in
-      let low : Low (p + 1) (placesIn h (a % h) (p + 1) xs) = in-low h (a % h) (p + 1) xs in
+      let low : AtLeast (p + 1) (placesIn h (a % h) (p + 1) xs) = in-atLeast h (a % h) (p + 1) xs in
       let ch : Chain w h e (getD w (a % h) 0) (placesIn h (a % h) (p + 1) xs) = chains (p + 1) xs (a % h) s (omega arith) in
       let kept : (gs : ℕ) → seek gs v h e a (getD w (a % h) 0) ≡ seek gs w h e a (getD w (a % h) 0) =
       λ gs. seek-kept w h e p x hpos pe len gs a (getD w (a % h) 0) (placesIn h (a % h) (p + 1) xs) (omega arith) low ch in

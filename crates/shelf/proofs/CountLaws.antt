@@ -1,4 +1,4 @@
--- Laws of tables and of counting.
+-- Laws of tables with one element changed, and of counting, summing and searching over the first n numbers.
 -- Assumes nothing.
 use mathlib.Core.Bool.{Bool, true, false, _||_, false≢true}
 use mathlib.Core.Logic.{_⊎_, inl, inr, ⊎-elim}
@@ -187,10 +187,10 @@ count-add (suc n) f f' h e = omega (arith, count-add n f f' h e, e n)
 
 -- ---- the lowest
 
-pub first-le : (n : ℕ) (f : ℕ → Bool) → any n f ≡ true → (first n f < n) × (f (first n f) ≡ true)
+pub first-found : (n : ℕ) (f : ℕ → Bool) → any n f ≡ true → (first n f < n) × (f (first n f) ≡ true)
 unfolding any first
-first-le zero f e = absurd (false≢true e)
-first-le (suc n) f e = go (any n f) refl (f n) refl (first-le n f)
+first-found zero f e = absurd (false≢true e)
+first-found (suc n) f e = go (any n f) refl (f n) refl (first-found n f)
   where
     go : (a : Bool) → any n f ≡ a → (b : Bool) → f n ≡ b → (any n f ≡ true → (first n f < n) × (f (first n f) ≡ true))
         → (first (suc n) f < suc n) × (f (first (suc n) f) ≡ true)

@@ -11,10 +11,10 @@ use lib.Dec.{eqb}
 use lib.ListN.{length}
 use borrow.Author.Tests.{lt-ltb, le-ltb, eqb-true, eqb-false}
 use Rattle.shelf.specs.declared.record.Geometry.{Geometry}
-use Rattle.shelf.specs.HashList.{noneWord, addressAt, oriAt, curAt, lookup, Entry, entryAt, entriesFrom, entries}
+use Rattle.shelf.specs.HashList.{noneWord, addressAt, oriAt, curAt, lookup, Entry, entryAt, entriesFrom, entries, entryIn}
 use Rattle.shelf.specs.Rewriting.{putFront, putAll, encode}
 use Rattle.shelf.proofs.TestLaws.{either-way}
-use Rattle.shelf.proofs.ChainLaws.{entryIn, placeOf, place-hit, place-step, entry-eq, front-entry, front-place, put, length-putN, lookup-encode}
+use Rattle.shelf.proofs.ChainLaws.{placeOf, place-hit, place-step, entry-eq, front-entry, front-place, put, length-putN, lookup-encode}
 
 -- addresses rise, from a on
 abbrev pub Rising : ℕ → List Entry → Type 0

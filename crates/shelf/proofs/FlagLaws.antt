@@ -9,11 +9,11 @@ use borrow.Author.Tests.{le-leb, lt-leb}
 use Rattle.shelf.specs.Counting.{any}
 use Rattle.shelf.specs.Lent.{flag, flagFrom}
 use Rattle.shelf.proofs.TestLaws.{or-true, or-false}
+use Rattle.shelf.proofs.WalkLaws.{any-suc}
 use Rattle.shelf.proofs.CountLaws.{none-any, any-ext}
 
 next-any : (i : ℕ) (f : ℕ → Bool) → any (i + 1) f ≡ (any i f || f i)
-unfolding any
-next-any i f = let q : i + 1 ≡ suc i = omega arith in ap (λ (n : ℕ). any n f) q
+next-any i f = let q : i + 1 ≡ suc i = omega arith in ap (λ (n : ℕ). any n f) q ∙ any-suc i f
 
 module _ (fs : List Bool) (low : ℕ) where
   -- nothing is found before the first member that is looked at

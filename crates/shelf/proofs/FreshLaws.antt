@@ -6,7 +6,7 @@ use mathlib.Core.Option.{none}
 use mathlib.Core.Path.{_≡_, refl, sym, ap, _∙_}
 use Prim.Native.Nat.{ℕ, zero, suc, _+_, _*_, _<_}
 use native.Mathlib.Omega.{arith}
-use lib.ListN.{length, getD, replicate}
+use lib.ListN.{length, getD, replicate, length-replicate}
 use lib.Seq.{ext-getD}
 use Rattle.stripe.specs.Blocks.{block, gen}
 use Rattle.stripe.specs.Places.{place}
@@ -30,10 +30,6 @@ use Rattle.shelf.proofs.Holding.{Holds, leaves-holds}
 
 -- ---- zeros
 
-length-zeros : {A : Type 0} (n : ℕ) (v : A) → length (replicate n v) ≡ n
-length-zeros zero v = refl
-length-zeros (suc n) v = ap suc (length-zeros n v)
-
 byte-zeros : (n j : ℕ) → getD {A = ℕ} (replicate n 0) j 0 ≡ 0
 byte-zeros zero j = refl
 byte-zeros (suc n) zero = refl
@@ -44,7 +40,7 @@ block-zeros : (g : Geometry) (n N : ℕ) → n < N → block (g .b) n (replicate
 unfolding blank
 block-zeros g n N h =
     let z : List ℕ = replicate (N * g .b) 0 in
-    let room = fits n N (g .b) (replicate (N * g .b) 0) (length-zeros (N * g .b) 0) h in
+    let room = fits n N (g .b) (replicate (N * g .b) 0) (length-replicate (N * g .b) 0) h in
     let len = length-block (g .b) n (replicate (N * g .b) 0) room in
     ext-getD 0 (block (g .b) n (replicate (N * g .b) 0)) (gen (g .b) (λ _. 0)) (len ∙ sym (length-gen (g .b) (λ _. 0)))
     (λ j p. let q : j < g .b = omega (arith, len) in
@@ -58,7 +54,7 @@ none-words g = words-bytes (replicate (g .h + 4 * g .e) noneWord) ∙ sym (encod
 
 none-length : (g : Geometry) → length (formatted g .list) ≡ listLength g
 unfolding formatted
-none-length g = ap length (none-bytes (g .h + 4 * g .e)) ∙ length-zeros (4 * (g .h + 4 * g .e)) 255 ∙ omega arith
+none-length g = ap length (none-bytes (g .h + 4 * g .e)) ∙ length-replicate (4 * (g .h + 4 * g .e)) 255 ∙ omega arith
 
 none-record : recordAt noneWord ≡ none
 unfolding recordAt choose
@@ -71,11 +67,11 @@ unfolding formatted freshState isSome flagsFrom
 fresh-leaves g Y =
     record {
       shelf = λ i. record { geometry = g; mode = 0; next = 0; listed = sym (no-marks g) i; failed = replicate 19 false };
-      array = array-is g (freshState g) (replicate (arrayLength g) 0) (Y .s-least) (length-zeros (arrayLength g) 0)
+      array = array-is g (freshState g) (replicate (arrayLength g) 0) (Y .s-least) (length-replicate (arrayLength g) 0)
           (λ x i hx hi.
           let blanks : blank g ≡ arrayBlock g (replicate (arrayLength g) 0) x i = sym (block-zeros g (place (g .d) (g .s) x i) ((g .d + 2) * g .s) (place-lt (g .d) (g .s) x i hx hi)) in
           by-role g (λ j. roleBlock g (freshState g) x j ≡ blank g) (λ j hj. role-data g (freshState g) x j hj) (role-p g (freshState g) x) (role-q g (freshState g) x) i hi ∙ blanks);
-      log = log-is g (freshState g) (replicate (logLength g) 0) (length-zeros (logLength g) 0) (λ r hr. sym (block-zeros g r (g .l) hr));
+      log = log-is g (freshState g) (replicate (logLength g) 0) (length-replicate (logLength g) 0) (λ r hr. sym (block-zeros g r (g .l) hr));
       length-of = none-length g;
       passes = ap (λ (w : List ℕ). valid w g 0 0) (none-words g) ∙ none-valid g 0 (Y .h-least) (Y .e-most);
       ori = λ x i _ _. ap (λ (e : Entry). recordAt (e .ori)) (none-here x i) ∙ none-record;

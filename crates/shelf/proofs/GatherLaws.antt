@@ -12,13 +12,13 @@ use lib.ListN.{length, getD, set, take, length-set}
 use lib.Seq.{getD-set-same, getD-set-other, take-suc, take-suc-set, take-set-le}
 use borrow.Author.Tests.{eq-eqb, ne-eqb, lt-ltb, le-ltb, eqb-true, eqb-false, ltb-true, ltb-false}
 use Rattle.shelf.specs.declared.record.Geometry.{Geometry}
-use Rattle.shelf.specs.HashList.{addressAt, oriAt, curAt, lookup, valid, Entry, entry, entryAt, entriesFrom, entries}
+use Rattle.shelf.specs.HashList.{addressAt, oriAt, curAt, lookup, valid, Entry, entry, entryAt, entriesFrom, entries, entryIn}
 use Rattle.shelf.specs.Rewriting.{sink, dropStripe, keeps, insertE, at3, merged, sunk, Segment}
 use Rattle.shelf.proofs.TestLaws.{either-way, not-so, and-both, and-false}
-use Rattle.shelf.proofs.ChainLaws.{entryIn, entry-eq}
+use Rattle.shelf.proofs.ChainLaws.{entry-eq}
 use Rattle.shelf.proofs.DecodeLaws.{Rising, Under, rising-less, InE, entries-hit, entries-step}
 use Rattle.shelf.proofs.FoundLaws.{found-address, found-sound}
-use Rattle.shelf.proofs.TableLaws.{blank, sink-stop, sink-turn}
+use Rattle.shelf.proofs.TableLaws.{noEntry, sink-stop, sink-turn}
 
 -- ---- an entry put into rising entries
 
@@ -63,33 +63,33 @@ rising-last a b (x ∷ xs) z o r =
 length-sink : (i : ℕ) (t : List Entry) (y : Entry) → length (sink i t y) ≡ length t
 unfolding sink
 length-sink zero t y = length-set t 0 y
-length-sink (suc i) t y = go (ltb (getD t i blank .address) (y .address)) (length-sink i (set t (suc i) (getD t i blank)) y)
+length-sink (suc i) t y = go (ltb (getD t i noEntry .address) (y .address)) (length-sink i (set t (suc i) (getD t i noEntry)) y)
   where
-    go : (b : Bool) → length (sink i (set t (suc i) (getD t i blank)) y) ≡ length (set t (suc i) (getD t i blank))
-        → length {A = Entry} (elim b as (λ _. List Entry) [ true ↦ set t (suc i) y | false ↦ sink i (set t (suc i) (getD t i blank)) y ])
+    go : (b : Bool) → length (sink i (set t (suc i) (getD t i noEntry)) y) ≡ length (set t (suc i) (getD t i noEntry))
+        → length {A = Entry} (elim b as (λ _. List Entry) [ true ↦ set t (suc i) y | false ↦ sink i (set t (suc i) (getD t i noEntry)) y ])
         ≡ length t
     go true q = length-set t (suc i) y
-    go false q = q ∙ length-set t (suc i) (getD t i blank)
+    go false q = q ∙ length-set t (suc i) (getD t i noEntry)
 
-sink-above : (i j : ℕ) (t : List Entry) (y : Entry) → i < j → getD (sink i t y) j blank ≡ getD t j blank
+sink-above : (i j : ℕ) (t : List Entry) (y : Entry) → i < j → getD (sink i t y) j noEntry ≡ getD t j noEntry
 unfolding sink
-sink-above zero j t y o = getD-set-other t 0 j y blank (λ z. omega arith)
+sink-above zero j t y o = getD-set-other t 0 j y noEntry (λ z. omega arith)
 sink-above (suc i) j t y o =
-    go (ltb (getD t i blank .address) (y .address)) (sink-above i j (set t (suc i) (getD t i blank)) y (omega arith))
+    go (ltb (getD t i noEntry .address) (y .address)) (sink-above i j (set t (suc i) (getD t i noEntry)) y (omega arith))
   where
-    go : (b : Bool) → getD (sink i (set t (suc i) (getD t i blank)) y) j blank ≡ getD (set t (suc i) (getD t i blank)) j blank
-        → getD {A = Entry} (elim b as (λ _. List Entry) [ true ↦ set t (suc i) y | false ↦ sink i (set t (suc i) (getD t i blank)) y ]) j
-        blank ≡ getD t j blank
-    go true q = getD-set-other t (suc i) j y blank (λ z. omega arith)
-    go false q = q ∙ getD-set-other t (suc i) j (getD t i blank) blank (λ z. omega arith)
+    go : (b : Bool) → getD (sink i (set t (suc i) (getD t i noEntry)) y) j noEntry ≡ getD (set t (suc i) (getD t i noEntry)) j noEntry
+        → getD {A = Entry} (elim b as (λ _. List Entry) [ true ↦ set t (suc i) y | false ↦ sink i (set t (suc i) (getD t i noEntry)) y ]) j
+        noEntry ≡ getD t j noEntry
+    go true q = getD-set-other t (suc i) j y noEntry (λ z. omega arith)
+    go false q = q ∙ getD-set-other t (suc i) j (getD t i noEntry) noEntry (λ z. omega arith)
 
 -- an entry sunk into a table whose first n are rising is put in its place among them
 pub sink-take : (n : ℕ) (t : List Entry) (y : Entry) → n < length t → Rising 0 (take n t) → take (suc n) (sink n t y) ≡ insertE y (take n t)
 unfolding sink insertE
 sink-take zero t y l r = take-suc-set t 0 y l
 sink-take (suc i) t y l r =
-    let z : Entry = getD t i blank in
-    let split : take (suc i) t ≡ take i t ++ (z ∷ []) = take-suc t i blank (omega arith) in
+    let z : Entry = getD t i noEntry in
+    let split : take (suc i) t ≡ take i t ++ (z ∷ []) = take-suc t i noEntry (omega arith) in
     let rs : Rising 0 (take i t ++ (z ∷ [])) = subst (λ (es : List Entry). Rising 0 es) split r in
     ⊎-elim
     (λ b.
@@ -103,11 +103,11 @@ sink-take (suc i) t y l r =
     let len : length u ≡ length t = length-set t (suc i) z in
     let same : take i u ≡ take i t = take-set-le i t (suc i) z (omega arith) in
     ap (λ (s : List Entry). take (suc (suc i)) s) (sym (sink-turn (suc i) i t y z (omega arith) refl o))
-    ∙ take-suc (sink i u y) (suc i) blank (rw (length-sink i u y) (omega arith))
+    ∙ take-suc (sink i u y) (suc i) noEntry (rw (length-sink i u y) (omega arith))
     ∙ ap₂ (λ (es : List Entry) (x : Entry). es ++ (x ∷ []))
     (sink-take i u y (omega arith) (subst (λ (es : List Entry). Rising 0 es) (sym same) (rising-init 0 (take i t) z rs))
     ∙ ap (insertE y) same)
-    (sink-above i (suc i) u y (omega arith) ∙ getD-set-same t (suc i) z blank l)
+    (sink-above i (suc i) u y (omega arith) ∙ getD-set-same t (suc i) z noEntry l)
     ∙ sym (insert-snoc y z (take i t) o) ∙ ap (insertE y) (sym split))
     (either-way (ltb (z .address) (y .address)))
 

@@ -19,7 +19,7 @@ use Rattle.shelf.specs.Members.{roleP, memberAt}
 use Rattle.shelf.specs.State.{State}
 use Rattle.shelf.specs.Lent.{arrayBlock, arrayLength, logLength, roleOf, roleBlock, arrayOf, logOf, flagsFrom, flagsOf}
 use Rattle.shelf.specs.declared.record.Geometry.{Geometry}
-use Rattle.shelf.proofs.CountLaws.{any-some, first-le}
+use Rattle.shelf.proofs.CountLaws.{any-some, first-found}
 use Rattle.shelf.proofs.TestLaws.{choose-true, choose-false}
 
 -- ---- blocks of bytes by blocks
@@ -47,7 +47,7 @@ blocksOf-back N b f l e same =
 role-back : (g : Geometry) (x i : ℕ) → i < g .d + 2 → roleOf g x (memberAt g x i) ≡ i
 unfolding roleOf
 role-back g x i h =
-    let f = first-le (g .d + 2) (λ k. eqb (memberAt g x k) (memberAt g x i)) (any-some (g .d + 2) (λ k. eqb (memberAt g x k) (memberAt g x i)) i h (eq-eqb (memberAt g x i) (memberAt g x i) refl)) in
+    let f = first-found (g .d + 2) (λ k. eqb (memberAt g x k) (memberAt g x i)) (any-some (g .d + 2) (λ k. eqb (memberAt g x k) (memberAt g x i)) i h (eq-eqb (memberAt g x i) (memberAt g x i) refl)) in
     member-inj (g .d) x (first (g .d + 2) (λ k. eqb (memberAt g x k) (memberAt g x i))) i (f .0) h (eqb-true (memberAt g x (first (g .d + 2) (λ k. eqb (memberAt g x k) (memberAt g x i)))) (memberAt g x i) (f .1))
 
 role-there : (g : Geometry) (x m : ℕ) → m < g .d + 2 → (roleOf g x m < g .d + 2) × (memberAt g x (roleOf g x m) ≡ m)

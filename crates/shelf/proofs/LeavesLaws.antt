@@ -14,7 +14,7 @@ use Rattle.shelf.specs.Counting.{choose, setAt}
 use Rattle.shelf.specs.Members.{logMember}
 use Rattle.shelf.specs.State.{State, listed, marksIn}
 use Rattle.shelf.specs.Status.{Call, start, fail, newLog}
-use Rattle.shelf.specs.Calls.{modeFailed, work}
+use Rattle.shelf.specs.Calls.{modeWithout, work}
 use Rattle.shelf.specs.HashList.{valid}
 use Rattle.shelf.specs.Lent.{Lent, lent, flag, flagAt, stateOf, arrayBlock, roleBlock, flagsOf, numberOf, triesList, Leaves, Answered}
 use Rattle.shelf.specs.Records.{withMode, modeThen, withFailed, withRenewed}
@@ -87,7 +87,7 @@ module _ (r : Shelf) (a n l : List ℕ) (len : length (r .failed) ≡ 19) where
   unfolding numberOf work triesList stateOf
   fail-answered j h e =
       let P = inputs-pass r (length a) (length n) l _ (sym e) .0 in
-      let q : modeThen r j ≡ modeFailed (r .geometry) (stateOf (lent r a n l)) j =
+      let q : modeThen r j ≡ modeWithout (r .geometry) j (marksIn (r .geometry) (listed (stateOf (lent r a n l) .log))) (r .mode) =
       ap (λ (k : ℕ). choose (eqb j (logMember (r .geometry)) && eqb (r .mode) 1) (choose (eqb k 0) 0 2) (r .mode)) (sym (marks-here r a n l P)) in
       record {
         number = e;

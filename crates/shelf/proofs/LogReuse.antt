@@ -14,7 +14,7 @@ use Rattle.shelf.specs.Counting.{any, setAt}
 use Rattle.shelf.specs.Members.{logMember}
 use Rattle.shelf.specs.State.{Log, State, isSome, listed, marksIn, lowestStale}
 use Rattle.shelf.specs.Status.{Call, start, fail, write, read, resync, rebuild, newLog, fullResync, row}
-use Rattle.shelf.specs.Calls.{inMode, withFlags, settled, dropped, made, remade, logs, overwritten, logged, writeStripe, written, given, writeTo, resynced, blockAt, parityFailed, arrayCleared, rebuilt, modeFailed, work}
+use Rattle.shelf.specs.Calls.{inMode, withFlags, settled, dropped, made, remade, logs, overwritten, logged, writeStripe, written, given, writeTo, resynced, blockAt, parityFailed, arrayCleared, rebuilt, modeWithout, work}
 use Rattle.shelf.specs.declared.record.Geometry.{Geometry}
 use Rattle.shelf.proofs.TestLaws.{cases, choose-true, choose-false}
 use Rattle.shelf.proofs.ListedLaws.{no-marks}
@@ -76,7 +76,7 @@ module _ (g : Geometry) (s : State) where
 pub records-kept : (g : Geometry) (c : Call) (s : State) → RecordsKept g c s
 unfolding work resynced rebuilt writeTo
 records-kept g start s = same-log g s (inMode s 1) refl
-records-kept g (fail j) s = same-log g s (inMode (withFlags s (setAt j true (s .failed))) (modeFailed g s j)) refl
+records-kept g (fail j) s = same-log g s (inMode (withFlags s (setAt j true (s .failed))) (modeWithout g j (marksIn g (listed (s .log))) (s .mode))) refl
 records-kept g (write a n v) s =
     λ c.
     let r = writeTo g c a n v s in

@@ -22,7 +22,7 @@ use Rattle.shelf.specs.Sequence.{Changed, Resyncs, stop, more}
 use Rattle.shelf.specs.declared.record.Geometry.{Geometry}
 use Rattle.shelf.specs.declared.record.Shelf.{Shelf}
 use Rattle.shelf.proofs.TestLaws.{cases, clash, and-fine, choose-true, choose-false}
-use Rattle.shelf.proofs.CountLaws.{setAt-other, setRow-here, setRow-other, count-ext, count-zero, count-mono, total-mono, any-ext, any-none, none-any, none-count, count-at, first-le}
+use Rattle.shelf.proofs.CountLaws.{setAt-other, setRow-here, setRow-other, count-ext, count-zero, count-mono, total-mono, any-ext, any-none, none-any, none-count, count-at, first-found}
 use Rattle.shelf.proofs.ListedLaws.{stale-ext, marks-none, none-marks}
 use Rattle.shelf.proofs.InputLaws.{Fine, record-fine, fine-record, Passed, inputs-pass, passed-number}
 use Rattle.shelf.proofs.LayoutLaws.{array-length, log-length, flag-back}
@@ -46,7 +46,7 @@ one-fewer : (g : Geometry) (m : ℕ → ℕ → Bool) (n : ℕ) → staleCount g
 unfolding bit
 one-fewer g m n e =
     let low : ℕ = lowestStale g m in
-    let f = first-le (g .s) (stale g m) (some-stale g m n e) in
+    let f = first-found (g .s) (stale g m) (some-stale g m n e) in
     let old : bit (stale g m low) ≡ 1 = ap bit (f .1) in
     let new : bit (stale g (setAt low (λ _. false) m) low) ≡ 0 = ap bit (none-any (g .d) _ (λ i _. setRow-here low (λ _. false) m low i refl)) in
     let c =
@@ -101,7 +101,7 @@ module _ (g : Geometry) (s : State) (n : ℕ) (e : staleCount g (listed (s .log)
   resync-step =
       subst (λ (t : State). Resynced g s t n)
       (sym (choose-true (ltb low (g .s)) (made g (inMode s 2) low (s .disk low)) (inMode s 0)
-      (lt-ltb low (g .s) (first-le (g .s) (stale g (listed (s .log))) (some-stale g (listed (s .log)) n e) .0))))
+      (lt-ltb low (g .s) (first-found (g .s) (stale g (listed (s .log))) (some-stale g (listed (s .log)) n e) .0))))
       made-here
 
 -- ---- one resync of what is lent

@@ -17,7 +17,7 @@ use Rattle.stripe.proofs.Laws.{parityP-ext, parityQ-ext, zeros-obey, made-obeys
 use Rattle.shelf.specs.Counting.{choose, any, first}
 use Rattle.shelf.specs.Members.{IsBlock, blank, column, blockP, blockQ, otherMissing, workedBack, arrayMembers}
 use Rattle.shelf.specs.declared.record.Geometry.{Geometry}
-use Rattle.shelf.proofs.CountLaws.{any-none, first-le}
+use Rattle.shelf.proofs.CountLaws.{any-none, first-found}
 use Rattle.shelf.proofs.TestLaws.{cases, clash, choose-true, and-left, and-right}
 
 pub blockP-ext : (g : Geometry) (f h : ℕ → List ℕ) → ((i : ℕ) → i < g .d → f i ≡ h i) → blockP g f ≡ blockP g h
@@ -104,7 +104,7 @@ module _ (g : Geometry) (missing : ℕ → Bool) (i : ℕ) where
   rest-there few hi mi n hn ni ny =
       cases (any (g .d + 2) (λ k. missing k && not (eqb k i)))
       (λ t.
-      let f = first-le (g .d + 2) (λ k. missing k && not (eqb k i)) t in
+      let f = first-found (g .d + 2) (λ k. missing k && not (eqb k i)) t in
       let e : choose (ltb found (g .d + 2)) found i ≡ found = choose-true (ltb found (g .d + 2)) found i (lt-ltb found (g .d + 2) (f .0)) in
       cases (missing n)
       (λ m. absurd (unordered (g .d + 2) missing few i found n (omega arith) (f .0) hn

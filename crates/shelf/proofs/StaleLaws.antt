@@ -11,8 +11,8 @@ use lib.Dec.{eqb, ltb}
 use borrow.Author.Tests.{eq-eqb, ne-eqb, lt-ltb, le-ltb, eqb-true, ltb-true, ltb-false}
 use Rattle.shelf.specs.declared.record.Geometry.{Geometry}
 use Rattle.shelf.specs.Counting.{count, any, first}
-use Rattle.shelf.specs.HashList.{addressAt, lookup, valid, staleIn}
-use Rattle.shelf.specs.Checking.{listedIn, lowerStale, leads}
+use Rattle.shelf.specs.HashList.{addressAt, lookup, valid, staleIn, listedIn}
+use Rattle.shelf.specs.Checking.{lowerStale, leads}
 use Rattle.shelf.proofs.TestLaws.{either-way, not-so, false-is, same-bool, and-both, choose-true, choose-false}
 use Rattle.shelf.proofs.AddressLaws.{stripe-of, index-of, address-is}
 use Rattle.shelf.proofs.WalkLaws.{any-turn, any-least, first-is, hits, count-hits}

@@ -13,8 +13,8 @@ use borrow.Author.Tests.{lt-ltb, le-ltb}
 use Rattle.shelf.specs.HashList.{Entry, entry}
 use Rattle.shelf.specs.Rewriting.{held, sink, at3}
 
-abbrev pub blank : Entry
-blank = entry 0 0 0
+abbrev pub noEntry : Entry
+noEntry = entry 0 0 0
 
 abbrev pub put3 : List ℕ → ℕ → ℕ → ℕ → ℕ → List ℕ
 put3 x i a o c = set (set (set x (3 * i) a) (3 * i + 1) o) (3 * i + 2) c
@@ -24,7 +24,7 @@ unfolding held
 length-held zero i x = refl
 length-held (suc f) i x = ap suc (length-held f (i + 1) x)
 
-pub held-get : (f i k : ℕ) (x : List ℕ) → k < f → getD (held f i x) k blank ≡ at3 x (i + k)
+pub held-get : (f i k : ℕ) (x : List ℕ) → k < f → getD (held f i x) k noEntry ≡ at3 x (i + k)
 unfolding held
 held-get zero i k x o = absurd (omega arith)
 held-get (suc f) i zero x o = rw (add-zero i)
@@ -80,22 +80,22 @@ module _ (x : List ℕ) (k a o c : ℕ) where
 
 -- ---- the turns of the loop that sinks an entry
 
-pub sink-stop : (i j : ℕ) (t : List Entry) (y : Entry) → i ≡ j + 1 → getD t j blank .address < y .address → sink i t y ≡ set t i y
+pub sink-stop : (i j : ℕ) (t : List Entry) (y : Entry) → i ≡ j + 1 → getD t j noEntry .address < y .address → sink i t y ≡ set t i y
 unfolding sink
 sink-stop i j t y q o =
     let z : i ≡ suc j = omega arith in
-    rw z (ap (λ (b : Bool). elim b as (λ _. List Entry) [ true ↦ set t (suc j) y | false ↦ sink j (set t (suc j) (getD t j blank)) y ])
-    (lt-ltb (getD t j blank .address) (y .address) o))
+    rw z (ap (λ (b : Bool). elim b as (λ _. List Entry) [ true ↦ set t (suc j) y | false ↦ sink j (set t (suc j) (getD t j noEntry)) y ])
+    (lt-ltb (getD t j noEntry .address) (y .address) o))
 
-pub sink-turn : (i j : ℕ) (t : List Entry) (y z : Entry) → i ≡ j + 1 → z ≡ getD t j blank → y .address ≤ z .address
+pub sink-turn : (i j : ℕ) (t : List Entry) (y z : Entry) → i ≡ j + 1 → z ≡ getD t j noEntry → y .address ≤ z .address
     → sink j (set t i z) y ≡ sink i t y
 unfolding sink
 sink-turn i j t y z q s o =
     let k : i ≡ suc j = omega arith in
-    let o2 : y .address ≤ getD t j blank .address = rw s at o in
+    let o2 : y .address ≤ getD t j noEntry .address = rw s at o in
     rw (k, s) (sym (ap (λ (b : Bool).
-    elim b as (λ _. List Entry) [ true ↦ set t (suc j) y | false ↦ sink j (set t (suc j) (getD t j blank)) y ])
-    (le-ltb (getD t j blank .address) (y .address) o2)))
+    elim b as (λ _. List Entry) [ true ↦ set t (suc j) y | false ↦ sink j (set t (suc j) (getD t j noEntry)) y ])
+    (le-ltb (getD t j noEntry .address) (y .address) o2)))
 
 pub sink-done : (i : ℕ) (t : List Entry) (y : Entry) → i ≡ 0 → sink i t y ≡ set t i y
 unfolding sink
@@ -105,7 +105,7 @@ sink-done i t y q = rw q
 pub sink-end : (t u v : List Entry) (i : ℕ) (y : Entry) → v ≡ set t i y → sink i t y ≡ set t i y → sink i t y ≡ u → v ≡ u
 sink-end t u v i y p q r = p ∙ sym q ∙ r
 
-at-get : (e j : ℕ) (x : List ℕ) → j < e → getD (held e 0 x) j blank ≡ at3 x j
+at-get : (e j : ℕ) (x : List ℕ) → j < e → getD (held e 0 x) j noEntry ≡ at3 x j
 at-get e j x o = held-get e 0 j x o ∙ ap (λ (k : ℕ). at3 x k) (zero-add j)
 
 pub held-stop : (e i : ℕ) (x : List ℕ) (y : Entry) → 0 < i → i ≤ e → getD x (3 * (i - 1)) 0 < y .address

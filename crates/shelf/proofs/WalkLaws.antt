@@ -1,4 +1,4 @@
--- Laws of counting, of sums and of the first number that passes a test.
+-- Counting for walks: from a number on and row by row, the turns of loops that count or search, and what the first that passes is known by.
 -- Assumes nothing.
 use mathlib.Core.Bool.{Bool, true, false, _&&_, _||_}
 use mathlib.Core.Logic.{⊎-elim, _≢_}
@@ -10,7 +10,7 @@ use lib.Dec.{eqb, ltb}
 use borrow.Author.Tests.{ne-eqb, eqb-true, eqb-false, ltb-true, ltb-false}
 use Rattle.shelf.specs.Counting.{choose, bit, count, total, any, first}
 use Rattle.shelf.proofs.TestLaws.{either-way, not-so, false-is, and-both, or-false, choose-true, choose-false}
-use Rattle.shelf.proofs.CountLaws.{count-ext, any-some, none-any}
+use Rattle.shelf.proofs.CountLaws.{count-ext, any-some, none-any, none-count}
 
 -- ---- counting from a on
 
@@ -89,7 +89,7 @@ countFrom-rows (suc s) d t =
 
 -- ---- whether one passes
 
-any-suc : (n : ℕ) (f : ℕ → Bool) → any (suc n) f ≡ (any n f || f n)
+pub any-suc : (n : ℕ) (f : ℕ → Bool) → any (suc n) f ≡ (any n f || f n)
 unfolding any
 any-suc n f = refl
 
@@ -187,11 +187,6 @@ count-one-more (suc n) y f o q =
     swap : (a b : ℕ) → a + 1 + b ≡ a + b + 1
     swap a b = omega arith
 
-count-never : (n : ℕ) → count n (λ x. false) ≡ count 0 (λ x. false)
-unfolding count bit
-count-never zero = refl
-count-never (suc n) = add-zero (count n (λ x. false)) ∙ count-never n
-
 -- as many of the first n pass as there are numbers below s that one of them is sent to, where no two are sent to the same
 module _ (s : ℕ) (f : ℕ → Bool) (to : ℕ → ℕ) where
   abbrev pub hits : ℕ → ℕ → Bool
@@ -200,7 +195,7 @@ module _ (s : ℕ) (f : ℕ → Bool) (to : ℕ → ℕ) where
   pub count-hits : (n : ℕ) → ((q : ℕ) → q < n → f q ≡ true → to q < s)
       → ((q r : ℕ) → q < r → r < n → f q ≡ true → f r ≡ true → to q ≡ to r → ⊥) → count s (hits n) ≡ count n f
   unfolding any bit count
-  count-hits zero low one = count-never s
+  count-hits zero low one = none-count s (hits zero) (λ i p. refl)
   count-hits (suc n) low one =
       let ih : count s (hits n) ≡ count n f = count-hits n (λ q o. low q (omega arith)) (λ q r o l. one q r o (omega arith)) in
       ⊎-elim

@@ -11,7 +11,7 @@ use Rattle.shelf.specs.Words.{words, bytesOf}
 abbrev pub wordAt : List ℕ → ℕ → ℕ
 wordAt l x = getD l x 0 + getD l (x + 1) 0 * 256 + getD l (x + 2) 0 * 65536 + getD l (x + 3) 0 * 16777216
 
--- the bytesOf with the word v at byte x
+-- the bytes with the word v at byte x
 abbrev pub putAt : List ℕ → ℕ → ℕ → List ℕ
 putAt l x v = set (set (set (set l x (v % 256)) (x + 1) (v / 256 % 256)) (x + 2) (v / 65536 % 256)) (x + 3) (v / 16777216)
 
@@ -55,7 +55,7 @@ length-words (a ∷ b ∷ c ∷ []) n q = absurd (omega arith)
 length-words (a ∷ b ∷ c ∷ d ∷ r) zero q = absurd (omega arith)
 length-words (a ∷ b ∷ c ∷ d ∷ r) (suc n) q = ap suc (length-words r n (omega arith))
 
--- bytesOf that are whole words are known by their words
+-- bytes that are whole words are known by their words
 pub bytes-words : (l : List ℕ) (n : ℕ) → length l ≡ 4 * n → ((i : ℕ) → getD l i 0 < 256) → bytesOf (words l) ≡ l
 unfolding words bytesOf
 bytes-words [] n q gs = refl

@@ -1,6 +1,5 @@
 -- What each call does to a shelf, where no row of `Status.antt` or `Lent.antt` refuses it. Tables run over stripes below s and data indices below d;
--- what they hold beyond is of no account. The answers beside the number, the blocks that a read hands over and the stripe that a resync tells, stand
--- in `Lent.antt` (`readBuffer`, `resyncStripe`).
+-- what they hold beyond is of no account. The stripe that a resync tells is `resyncStripe`; the buffer that a read fills stands in `Lent.antt`.
 -- Assumes nothing.
 use mathlib.Core.Bool.{Bool, true, false, not, _&&_, _||_}
 use mathlib.Core.List.{List}
@@ -22,6 +21,7 @@ inMode s m = record { disk = s .disk; p = s .p; q = s .q; log = s .log; mode = m
 abbrev pub withFlags : State → (ℕ → Bool) → State
 withFlags s f = record { disk = s .disk; p = s .p; q = s .q; log = s .log; mode = s .mode; failed = f }
 
+-- the next free record and the mode, with so many blocks left listed
 abbrev pub nextLeft : ℕ → ℕ → ℕ
 nextLeft marks next = choose (eqb marks 0) 0 next
 
@@ -199,10 +199,14 @@ served g s a j = blockAt g s (stripeOf g (a + j)) (indexOf g (a + j))
 
 -- ---- resync
 
+-- the stripe that a resync makes and tells, or s where none is stale
+abbrev pub resyncStripe : Geometry → State → ℕ
+resyncStripe g s = lowestStale g (listed (s .log))
+
 -- Mode 2; P and Q of the lowest stale stripe are made and its listed blocks dropped. If none is stale, nothing is stored and the mode is 0.
 unfoldable pub resynced : Geometry → State → State
 resynced g s =
-    let t = lowestStale g (listed (s .log)) in choose (ltb t (g .s)) (made g (inMode s 2) t (s .disk t)) (inMode s 0)
+    let t = resyncStripe g s in choose (ltb t (g .s)) (made g (inMode s 2) t (s .disk t)) (inMode s 0)
 
 -- ---- rebuild
 
@@ -222,15 +226,14 @@ rebuilt g s =
 
 -- ---- the calls
 
--- If the log fails, mode 1 becomes 2 when blocks are listed, else 0.
-abbrev pub modeFailed : Geometry → State → ℕ → ℕ
-modeFailed g s j =
-    choose (eqb j (logMember g) && eqb (s .mode) 1) (choose (eqb (marksIn g (listed (s .log))) 0) 0 2) (s .mode)
+-- The mode after member j failed, with so many blocks listed: if j is the log, mode 1 becomes 2 when blocks are listed, else 0.
+abbrev pub modeWithout : Geometry → ℕ → ℕ → ℕ → ℕ
+modeWithout g j marks mode = choose (eqb j (logMember g) && eqb mode 1) (choose (eqb marks 0) 0 2) mode
 
 -- what an accepted call does
 unfoldable pub work : Geometry → Call → State → State
 work g start s = inMode s 1
-work g (fail j) s = inMode (withFlags s (setAt j true (s .failed))) (modeFailed g s j)
+work g (fail j) s = inMode (withFlags s (setAt j true (s .failed))) (modeWithout g j (marksIn g (listed (s .log))) (s .mode))
 work g (write a n v) s = writeTo g (g .s) a n v s
 work g (read a n len) s = s
 work g resync s = resynced g s

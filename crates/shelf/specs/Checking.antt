@@ -6,7 +6,7 @@ use mathlib.Core.List.{List}
 use lib.Dec.{ltb, eqb}
 use Rattle.shelf.specs.declared.record.Geometry.{Geometry}
 use Rattle.shelf.specs.Counting.{choose, any}
-use Rattle.shelf.specs.HashList.{noneWord, addressAt, oriAt, curAt, lookup, allListed, goodEntry, passes}
+use Rattle.shelf.specs.HashList.{noneWord, addressAt, oriAt, curAt, lookup, listedIn, allListed, goodEntry, passes}
 
 -- ---- a stripe is tested once for a lacking Ori
 
@@ -34,11 +34,7 @@ validLowest w g next listed = passes (goodLowest w g next) w g listed
 
 -- ---- stale stripes
 
--- the block with data index i of stripe x is listed
-abbrev pub listedIn : List ℕ → Geometry → ℕ → ℕ → Bool
-listedIn w g x i = ltb (lookup w g (x * g .d + i)) (g .e)
-
--- the lower of x and the stripe of place p, where p is listed
+-- the lower of x and the stripe of place p; x where p is not listed
 unfoldable pub lowerStale : List ℕ → Geometry → ℕ → ℕ → ℕ
 lowerStale w g p x =
     choose (ltb (addressAt w (g .h) p / g .d) x && eqb (lookup w g (addressAt w (g .h) p)) p) (addressAt w (g .h) p / g .d) x

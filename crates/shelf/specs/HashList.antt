@@ -137,8 +137,11 @@ abbrev pub entry : ℕ → ℕ → ℕ → Entry
 entry a o c = record { address = a; ori = o; cur = c }
 
 -- the entry in place p
+abbrev pub entryIn : List ℕ → ℕ → ℕ → Entry
+entryIn w h p = entry (addressAt w h p) (oriAt w h p) (curAt w h p)
+
 abbrev pub entryAt : List ℕ → Geometry → ℕ → Entry
-entryAt w g p = entry (addressAt w (g .h) p) (oriAt w (g .h) p) (curAt w (g .h) p)
+entryAt w g p = entryIn w (g .h) p
 
 -- what the list says of address a: its entry, or one with neither Ori nor Cur
 unfoldable pub said : List ℕ → Geometry → ℕ → Entry
@@ -154,6 +157,10 @@ entriesFrom (suc f) w g a =
 unfoldable pub entries : List ℕ → Geometry → List Entry
 entries w g = entriesFrom (g .d * g .s) w g 0
 
+-- the block with data index i of stripe x is listed
+abbrev pub listedIn : List ℕ → Geometry → ℕ → ℕ → Bool
+listedIn w g x i = ltb (lookup w g (x * g .d + i)) (g .e)
+
 -- stripe x is stale: a block of it is listed. (The shelf's description calls such a stripe waiting.)
 unfoldable pub staleIn : List ℕ → Geometry → ℕ → Bool
-staleIn w g x = any (g .d) (λ i. ltb (lookup w g (x * g .d + i)) (g .e))
+staleIn w g x = any (g .d) (listedIn w g x)

@@ -13,7 +13,7 @@ use Rattle.stripe.specs.Blocks.{block, blocksOf}
 use Rattle.stripe.specs.Places.{place}
 use Rattle.shelf.specs.Counting.{choose, count, any, first}
 use Rattle.shelf.specs.Members.{arrayMembers, logMember, allMembers, roleP, roleQ, memberAt, addressOf}
-use Rattle.shelf.specs.State.{Log, State, isSome, listed, marksIn, lowestStale}
+use Rattle.shelf.specs.State.{Log, State, isSome, listed, marksIn}
 use Rattle.shelf.specs.Status.{Call, start, fail, write, read, resync, rebuild, newLog, fullResync, row, codeOf}
 use Rattle.shelf.specs.Calls.{served, work}
 use Rattle.shelf.specs.Words.{words, bytesOf}
@@ -198,12 +198,9 @@ pub record Answered (h : Lent) (c : Call) (code : ℕ) (h' : Lent) : Type 0 wher
   pub unaltered : code ≡ 0 → altersList (h .shelf .geometry) c (stateOf h) ≡ false → h' .list ≡ h .list
   pub refused : code ≢ 0 → h' ≡ h
 
--- the caller's buffer after an accepted read of n blocks from address a on, and the stripe that an accepted resync tells (s: none was stale)
+-- the caller's buffer after an accepted read of n blocks from address a on
 unfoldable pub readBuffer : Geometry → State → ℕ → ℕ → List ℕ
 readBuffer g s a n = blocksOf n (g .b) (λ j k. getD (served g s a j) k 0)
-
-abbrev pub resyncStripe : Geometry → State → ℕ
-resyncStripe g s = lowestStale g (listed (s .log))
 
 -- ---- format: it looks at the measures and the lengths only
 

@@ -1,13 +1,11 @@
 -- The record after each of the methods on it.
 -- Assumes nothing.
-use mathlib.Core.Bool.{Bool, true, false, _&&_}
+use mathlib.Core.Bool.{Bool, true, false}
 use Prim.Native.Nat.{ℕ}
-use lib.Dec.{eqb, ltb}
+use lib.Dec.{ltb}
 use lib.ListN.{set}
-use Rattle.shelf.specs.Counting.{choose}
-use Rattle.shelf.specs.Members.{logMember}
 use Rattle.shelf.specs.Status.{row, logSound}
-use Rattle.shelf.specs.Calls.{nextLeft, modeLeft}
+use Rattle.shelf.specs.Calls.{modeWithout, nextLeft, modeLeft}
 use Rattle.shelf.specs.Lent.{flagAt}
 use Rattle.shelf.specs.declared.record.Shelf.{Shelf}
 
@@ -16,7 +14,7 @@ withMode r m = record { geometry = r .geometry; mode = m; next = r .next; listed
 
 -- with member j failed: if it is the log, mode 1 becomes 2 when blocks are listed, else 0
 abbrev pub modeThen : Shelf → ℕ → ℕ
-modeThen r j = choose (eqb j (logMember (r .geometry)) && eqb (r .mode) 1) (choose (eqb (r .listed) 0) 0 2) (r .mode)
+modeThen r j = modeWithout (r .geometry) j (r .listed) (r .mode)
 
 abbrev pub withFailed : Shelf → ℕ → Shelf
 withFailed r j =

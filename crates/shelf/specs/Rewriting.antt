@@ -86,7 +86,7 @@ unfoldable pub sunk : ℕ → ℕ → List Entry → List ℕ → List Entry
 sunk zero n t x = t
 sunk (suc j) n t x = sink (n + j) (sunk j n t x) (at3 x j)
 
--- place p is listed, and not of stripe k; a place whose address is not below d * s, as that of an unused one, is not looked up
+-- place p is listed, and not of stripe k; a place whose address is not below d * s, as none is not, is not looked up
 unfoldable pub keeps : List ℕ → Geometry → ℕ → ℕ → Bool
 keeps w g k p =
     let a = addressAt w (g .h) p in ltb (a / g .d) (g .s) && (not (eqb (a / g .d) k) && eqb (lookup w g a) p)

@@ -39,7 +39,8 @@ fn insert(x: &mut [u32], e: usize, n: usize, a: usize, o: usize, c: usize)
     put_entry(x, e, i, a, o, c);
 }
 
-// Whether place p of a list that passes number 3 is listed, and not of stripe k. An unused place costs no lookup.
+// Whether place p of a list that passes number 3 is listed, and not of stripe k. A place whose address is none costs
+// no lookup.
 fn keeps_place(l: &[u8], g: record::Geometry, k: usize, p: usize) -> bool
     requires { ⌜ Measures g (now l) × (p < g .e) ⌝ }
     ensures { λ r. ⌜ r ≡ keeps (words (now (l .entry))) g k p ⌝ }

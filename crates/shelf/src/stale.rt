@@ -24,7 +24,7 @@ pub fn lowest_stale(l: &[u8], g: record::Geometry) -> usize
     x
 }
 
-// The lower of x and the stripe of place p, where p is listed.
+// The lower of x and the stripe of place p; x where p is not listed.
 fn lower_stale(l: &[u8], g: record::Geometry, p: usize, x: usize) -> usize
     requires { ⌜ Measures g (now l) × (p < g .e) ⌝ }
     ensures { λ r. ⌜ r ≡ lowerStale (words (now (l .entry))) g p x ⌝ }

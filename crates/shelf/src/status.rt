@@ -1,5 +1,5 @@
-// The numbers by which calls are refused, decided before anything is stored: each function answers what the definition of the same rows in
-// `specs/Status.antt` and `specs/Lent.antt` says.
+// The numbers by which calls are refused, decided before anything is stored: each function answers what the definition of the same
+// rows in `specs/Status.antt`, `specs/Lent.antt` or, for new log, `specs/Records.antt` says.
 use super::list;
 use super::record;
 ghost use mathlib.Core.Bool.{_&&_, _||_, true};
@@ -174,7 +174,7 @@ fn outside(low: usize, high: usize, x: usize) -> bool
     either(x < low, high < x)
 }
 
-// Whether a or c.
+// Whether a or c holds.
 fn either(a: bool, c: bool) -> bool
     ensures { λ r. ⌜ r ≡ (a || c) ⌝ }
 {
@@ -184,7 +184,7 @@ fn either(a: bool, c: bool) -> bool
     c
 }
 
-// Whether a and c.
+// Whether both a and c hold.
 fn both(a: bool, c: bool) -> bool
     ensures { λ r. ⌜ r ≡ (a && c) ⌝ }
 {

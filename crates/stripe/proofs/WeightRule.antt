@@ -8,7 +8,7 @@ use Prim.Native.Nat.{ℕ, _<_}
 use lib.Dec.{eqb, eqb→eq}
 use lib.ListN.{getD}
 use Rattle.field.specs.Field.{double, pow2}
-use Rattle.field.proofs.Table.{at}
+use Rattle.field.proofs.Laws.{at}
 use Rattle.stripe.specs.Parity.{weight}
 
 -- the table of `src/weights.rt`

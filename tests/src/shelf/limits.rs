@@ -30,13 +30,13 @@ fn shelf(measures: [usize; 6], full: bool, random: &mut Random) -> Shelf {
     let [d, s, b, l, h, e] = measures;
     let (listed, next, mode) = if full { (e.min(d * s), l, 2) } else { (0, 0, 0) };
     let record = Record { measures: Measures { d, s, b, l, h, e }, mode, next, listed, failed: [0; 19] };
-    let lent = |length: u128| Buffer { bytes: random_bytes(length), told: length as usize };
+    let lent = |length: u128| Buffer { bytes: filled(length), told: length as usize };
     let [array, log, _] = lengths(record.measures).map(lent);
     Shelf { record, array, log, list: Buffer::of(lists::valid(&record, random).bytes()) }
 }
 
-/// So many bytes, none of which is 0; one where they are more than 2^25.
-fn random_bytes(length: u128) -> Vec<u8> {
+/// So many bytes that count up, none of them 0; one byte where they would be more than 2^25.
+fn filled(length: u128) -> Vec<u8> {
     let count = if length > 1 << 25 { 1 } else { length as usize };
     (0..count).map(|at| (at % 251) as u8 + 1).collect()
 }

@@ -6,8 +6,8 @@ use super::model::{record_after, NONE};
 use crate::Outcome;
 
 /// The words of a list of two places, of a shelf of two blocks where one log record is used: every place and the first
-/// number that is none, every address and the first that is none, the record that is used and one that is not; and
-/// none.
+/// number that is no place, every address and the first number that is no address, the record that is used and one that
+/// is not; and none.
 const PLACES: [u32; 4] = [0, 1, 2, NONE];
 const ADDRESSES: [u32; 4] = [0, 1, 2, NONE];
 const RECORDS: [u32; 3] = [0, 1, NONE];

@@ -1,4 +1,4 @@
--- `shelf_fail` meets its contract.
+-- `shelf::shelf_fail` meets its contract.
 -- Assumes nothing.
 use borrow.Author.Needs.{length-unmapped, needs}
 use mathlib.Core.Bool.{Bool}

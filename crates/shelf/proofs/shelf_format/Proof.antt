@@ -1,4 +1,4 @@
--- `shelf_format` meets its contract: a refusal leaves what is lent, and the fresh shelf is made piece by piece.
+-- `shelf::shelf_format` meets its contract: a refusal leaves what is lent, and the fresh shelf is made piece by piece.
 -- Assumes nothing.
 use borrow.Author.Needs.{needs}
 use mathlib.Core.Path.{_∙_, sym}

@@ -1,4 +1,4 @@
--- `shelf_start` meets its contract.
+-- `shelf::shelf_start` meets its contract.
 -- Assumes nothing.
 use borrow.Author.Needs.{length-unmapped, needs}
 use mathlib.Core.Bool.{Bool}

@@ -8,8 +8,8 @@ use native.Mathlib.Nat.{div-add-mod'}
 use native.Mathlib.Omega.{arith}
 use borrow.Author.Needs.{needs}
 use Rattle.shelf.specs.Counting.{any}
+use Rattle.shelf.specs.HashList.{listedIn}
 use Rattle.shelf.specs.Words.{words}
-use Rattle.shelf.specs.Checking.{listedIn}
 use Rattle.shelf.proofs.WalkLaws.{any-zero}
 use Rattle.shelf.proofs.StaleLaws.{leads-unlisted, leads-by, lower-listed, lower-unlisted}
 use Rattle.shelf.proofs.stale.leads_stripe.Statement.{statement}

@@ -1,4 +1,4 @@
--- `status::bad_lengths` meets its contract: the products are no large numbers.
+-- `shelf::status::bad_lengths` meets its contract: the products are no large numbers.
 -- Assumes nothing.
 use borrow.Author.Needs.{needs}
 use mathlib.Core.Bool.{Bool, _||_, not}

@@ -1,4 +1,4 @@
--- `status::bad_measures` meets its contract.
+-- `shelf::status::bad_measures` meets its contract.
 -- Assumes nothing.
 use borrow.Author.Needs.{needs}
 use mathlib.Core.Bool.{_||_}

@@ -1,4 +1,4 @@
--- `status::bad_record` meets its contract.
+-- `shelf::status::bad_record` meets its contract.
 -- Assumes nothing.
 use borrow.Author.Needs.{needs}
 use mathlib.Core.Bool.{Bool, _&&_, _||_}

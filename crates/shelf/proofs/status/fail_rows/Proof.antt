@@ -1,4 +1,4 @@
--- `status::fail_rows` meets its contract: each return is the first row that applies.
+-- `shelf::status::fail_rows` meets its contract: each return is the first row that applies.
 -- Assumes nothing.
 use borrow.Author.Needs.{needs}
 use borrow.Author.Tests.{le-leb, le-ltb, lt-leb, lt-ltb}

@@ -1,4 +1,4 @@
--- `status::format_code` meets its contract: each return is the first row that applies.
+-- `shelf::status::format_code` meets its contract: each return is the first row that applies.
 -- Assumes nothing.
 use borrow.Author.Needs.{needs}
 use mathlib.Core.Path.{_∙_, refl, sym}

@@ -1,4 +1,4 @@
--- `status::input_code` meets its contract: each return is the first row that applies.
+-- `shelf::status::input_code` meets its contract: each return is the first row that applies.
 -- Assumes nothing.
 use borrow.Author.Needs.{needs}
 use mathlib.Core.Bool.{not}

@@ -1,4 +1,4 @@
--- `status::new_log_code` meets its contract: the rows of the call are tried where rows 1 to 3 pass.
+-- `shelf::status::new_log_code` meets its contract: the rows of the call are tried where rows 1 to 3 pass.
 -- Assumes nothing.
 use borrow.Author.Needs.{needs}
 use mathlib.Core.Path.{_∙_, sym}

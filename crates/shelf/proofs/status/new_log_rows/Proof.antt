@@ -1,4 +1,4 @@
--- `status::new_log_rows` meets its contract: each return is the first row that applies.
+-- `shelf::status::new_log_rows` meets its contract: each return is the first row that applies.
 -- Assumes nothing.
 use borrow.Author.Needs.{needs}
 use borrow.Author.Tests.{le-ltb, lt-ltb}

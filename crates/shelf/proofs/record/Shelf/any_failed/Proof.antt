@@ -1,4 +1,4 @@
--- `record::Shelf::any_failed` meets its contract: what was found is what the flags looked at so far say.
+-- `shelf::record::Shelf::any_failed` meets its contract: what was found is what the flags looked at so far say.
 -- Assumes nothing.
 use borrow.Author.Needs.{needs}
 use mathlib.Core.Logic.{⊎-elim}

@@ -1,4 +1,4 @@
--- `record::Shelf::count_failed` meets its contract: the sum is the count of the flags looked at so far.
+-- `shelf::record::Shelf::count_failed` meets its contract: the sum is the count of the flags looked at so far.
 -- Assumes nothing.
 use borrow.Author.Needs.{needs}
 use mathlib.Core.Bool.{Bool, true, false}

@@ -1,4 +1,4 @@
--- `record::Shelf::drop_to` meets its contract.
+-- `shelf::record::Shelf::drop_to` meets its contract.
 -- Assumes nothing.
 use Rattle.shelf.proofs.RecordLaws.{none-left, none-left-then, some-left}
 use Rattle.shelf.proofs.record.Shelf.drop_to.Statement.{statement}

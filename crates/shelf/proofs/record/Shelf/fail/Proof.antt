@@ -1,4 +1,4 @@
--- `record::Shelf::fail` meets its contract.
+-- `shelf::record::Shelf::fail` meets its contract.
 -- Assumes nothing.
 use borrow.Author.Needs.{needs}
 use Rattle.shelf.proofs.RecordLaws.{failed-is, mode-idle, mode-listed, mode-member, mode-other}
