@@ -7,8 +7,8 @@ use lib.ListN.{length}
 use Rattle.shelf.specs.Lent.{Answered, lent}
 use Rattle.shelf.specs.Status.{fail}
 use Rattle.shelf.specs.declared.record.Shelf.{Shelf}
-use Rattle.shelf.proofs.CodeLaws.{fail-bounds}
-use Rattle.shelf.proofs.LeavesLaws.{fail-answered, refused-answered}
+use Rattle.shelf.proofs.numbers.CodeLaws.{fail-bounds}
+use Rattle.shelf.proofs.lent.LeavesLaws.{fail-answered, refused-answered}
 use Rattle.shelf.proofs.shelf_fail.Statement.{statement}
 use Rattle.shelf.proofs.shelf_fail.Tie as tie
 

@@ -8,8 +8,8 @@ use lib.ListN.{length}
 use Rattle.shelf.specs.Lent.{Answered, lent}
 use Rattle.shelf.specs.Status.{newLog}
 use Rattle.shelf.specs.declared.record.Shelf.{Shelf}
-use Rattle.shelf.proofs.CodeLaws.{new-log-bounds}
-use Rattle.shelf.proofs.LeavesLaws.{new-log-answered, refused-answered}
+use Rattle.shelf.proofs.numbers.CodeLaws.{new-log-bounds}
+use Rattle.shelf.proofs.lent.LeavesLaws.{new-log-answered, refused-answered}
 use Rattle.shelf.proofs.shelf_new_log.Statement.{statement}
 use Rattle.shelf.proofs.shelf_new_log.Tie as tie
 

@@ -7,7 +7,7 @@ use lib.ListN.{length}
 use Rattle.shelf.specs.Lent.{Answered, lent}
 use Rattle.shelf.specs.Status.{start}
 use Rattle.shelf.specs.declared.record.Shelf.{Shelf}
-use Rattle.shelf.proofs.LeavesLaws.{refused-answered, start-answered}
+use Rattle.shelf.proofs.lent.LeavesLaws.{refused-answered, start-answered}
 use Rattle.shelf.proofs.shelf_start.Statement.{statement}
 use Rattle.shelf.proofs.shelf_start.Tie as tie
 

@@ -9,8 +9,8 @@ use borrow.Author.Needs.{needs}
 use Rattle.shelf.specs.Words.{words, bytesOf}
 use Rattle.shelf.specs.HashList.{Entry, entries}
 use Rattle.shelf.specs.Rewriting.{encode, dropStripe}
-use Rattle.shelf.proofs.WordLaws.{bytes-words}
-use Rattle.shelf.proofs.TableLaws.{length-held}
+use Rattle.shelf.proofs.hashlist.WordLaws.{bytes-words}
+use Rattle.shelf.proofs.hashlist.TableLaws.{length-held}
 use Rattle.shelf.proofs.alter.drop_in.Statement.{statement}
 use Rattle.shelf.proofs.alter.drop_in.Tie as tie
 

@@ -9,10 +9,10 @@ use borrow.Author.Needs.{needs}
 use Rattle.shelf.specs.Words.{words, bytesOf}
 use Rattle.shelf.specs.HashList.{Entry, entries}
 use Rattle.shelf.specs.Rewriting.{encode, dropStripe, held, merged}
-use Rattle.shelf.proofs.WordLaws.{bytes-words}
-use Rattle.shelf.proofs.TableLaws.{length-held}
-use Rattle.shelf.proofs.GatherLaws.{length-merged}
-use Rattle.shelf.proofs.AlterLaws.{merged-held}
+use Rattle.shelf.proofs.hashlist.WordLaws.{bytes-words}
+use Rattle.shelf.proofs.hashlist.TableLaws.{length-held}
+use Rattle.shelf.proofs.hashlist.GatherLaws.{length-merged}
+use Rattle.shelf.proofs.hashlist.AlterLaws.{merged-held}
 use Rattle.shelf.proofs.alter.replace_in.Statement.{statement}
 use Rattle.shelf.proofs.alter.replace_in.Tie as tie
 

@@ -10,8 +10,8 @@ use borrow.Author.Needs.{needs}
 use Rattle.shelf.specs.Words.{words}
 use Rattle.shelf.specs.HashList.{Entry}
 use Rattle.shelf.specs.Rewriting.{held}
-use Rattle.shelf.proofs.TableLaws.{held-take, length-held}
-use Rattle.shelf.proofs.GatherLaws.{gathered, gather-start, gather-take, gather-skip, gathered-all, sunk-entry}
+use Rattle.shelf.proofs.hashlist.TableLaws.{held-take, length-held}
+use Rattle.shelf.proofs.hashlist.GatherLaws.{gathered, gather-start, gather-take, gather-skip, gathered-all, sunk-entry}
 use Rattle.shelf.proofs.entries.gather.Statement.{statement}
 use Rattle.shelf.proofs.entries.gather.Tie as tie
 

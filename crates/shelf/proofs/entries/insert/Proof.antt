@@ -9,7 +9,7 @@ use lib.ListN.{length, set}
 use borrow.Author.Needs.{needs}
 use Rattle.shelf.specs.HashList.{Entry, entry}
 use Rattle.shelf.specs.Rewriting.{held, sink}
-use Rattle.shelf.proofs.TableLaws.{sink-done, sink-end, held-stop, held-turn}
+use Rattle.shelf.proofs.hashlist.TableLaws.{sink-done, sink-end, held-stop, held-turn}
 use Rattle.shelf.proofs.entries.insert.Statement.{statement}
 use Rattle.shelf.proofs.entries.insert.Tie as tie
 

@@ -3,7 +3,7 @@
 use borrow.Author.Needs.{needs}
 use mathlib.Core.Path.{sym}
 use Rattle.shelf.specs.Words.{words}
-use Rattle.shelf.proofs.GatherLaws.{keeps-by, keeps-far, keeps-no}
+use Rattle.shelf.proofs.hashlist.GatherLaws.{keeps-by, keeps-far, keeps-no}
 use Rattle.shelf.proofs.entries.keeps_place.Statement.{statement}
 use Rattle.shelf.proofs.entries.keeps_place.Tie as tie
 

@@ -6,7 +6,7 @@ use native.Mathlib.Omega.{arith}
 use lib.ListN.{length}
 use borrow.Author.Needs.{needs}
 use Rattle.shelf.specs.Rewriting.{held, sunk}
-use Rattle.shelf.proofs.GatherLaws.{sunk-start, sunk-turn}
+use Rattle.shelf.proofs.hashlist.GatherLaws.{sunk-start, sunk-turn}
 use Rattle.shelf.proofs.entries.merge.Statement.{statement}
 use Rattle.shelf.proofs.entries.merge.Tie as tie
 

@@ -5,7 +5,7 @@ use native.Mathlib.Nat.{mod-lt}
 use native.Mathlib.Omega.{arith}
 use borrow.Author.Needs.{needs}
 use Rattle.shelf.specs.Words.{words}
-use Rattle.shelf.proofs.FillLaws.{front-made}
+use Rattle.shelf.proofs.hashlist.FillLaws.{front-made}
 use Rattle.shelf.proofs.entries.put_front.Statement.{statement}
 use Rattle.shelf.proofs.entries.put_front.Tie as tie
 

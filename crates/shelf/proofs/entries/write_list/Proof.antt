@@ -8,7 +8,7 @@ use borrow.Author.Needs.{needs}
 use Rattle.shelf.specs.Words.{words}
 use Rattle.shelf.specs.HashList.{noneWord}
 use Rattle.shelf.specs.Rewriting.{putAll, held}
-use Rattle.shelf.proofs.FillLaws.{all-start, all-turn, all-done}
+use Rattle.shelf.proofs.hashlist.FillLaws.{all-start, all-turn, all-done}
 use Rattle.shelf.proofs.entries.write_list.Statement.{statement}
 use Rattle.shelf.proofs.entries.write_list.Tie as tie
 

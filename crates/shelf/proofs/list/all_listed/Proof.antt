@@ -7,7 +7,7 @@ use native.Mathlib.Omega.{arith}
 use borrow.Author.Needs.{needs}
 use Rattle.shelf.specs.Words.{words}
 use Rattle.shelf.specs.HashList.{allListed}
-use Rattle.shelf.proofs.PlaceLaws.{listed-start, listed-done, listed-stop, listed-turn}
+use Rattle.shelf.proofs.hashlist.PlaceLaws.{listed-start, listed-done, listed-stop, listed-turn}
 use Rattle.shelf.proofs.list.all_listed.Statement.{statement}
 use Rattle.shelf.proofs.list.all_listed.Tie as tie
 

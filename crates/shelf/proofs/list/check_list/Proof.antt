@@ -12,9 +12,9 @@ use borrow.Author.Tests.{not-true, not-false}
 use Rattle.shelf.specs.Words.{words}
 use Rattle.shelf.specs.HashList.{Walk, All, Fault, follow, slots}
 use Rattle.shelf.specs.Checking.{goodLowest}
-use Rattle.shelf.proofs.TestLaws.{not-so}
-use Rattle.shelf.proofs.NumberThree.{onward, whole, turn-slot, turn-place, turn-end, stop-full, stop-out, stop-bad, walked-all}
-use Rattle.shelf.proofs.CheckLaws.{valid-fault, valid-all}
+use Rattle.shelf.proofs.general.TestLaws.{not-so}
+use Rattle.shelf.proofs.hashlist.NumberThree.{onward, whole, turn-slot, turn-place, turn-end, stop-full, stop-out, stop-bad, walked-all}
+use Rattle.shelf.proofs.hashlist.CheckLaws.{valid-fault, valid-all}
 use Rattle.shelf.proofs.list.check_list.Statement.{statement}
 use Rattle.shelf.proofs.list.check_list.Tie as tie
 

@@ -6,7 +6,7 @@ use Prim.Native.Nat.{ℕ}
 use borrow.Author.Needs.{needs}
 use borrow.Author.Tests.{not-true, not-false}
 use Rattle.shelf.specs.Words.{words}
-use Rattle.shelf.proofs.PlaceLaws.{bad-low, bad-slot, bad-twice, bad-ori, bad-cur, lacks-ori, has-ori}
+use Rattle.shelf.proofs.hashlist.PlaceLaws.{bad-low, bad-slot, bad-twice, bad-ori, bad-cur, lacks-ori, has-ori}
 use Rattle.shelf.proofs.list.good_entry.Statement.{statement}
 use Rattle.shelf.proofs.list.good_entry.Tie as tie
 

@@ -6,7 +6,7 @@ use Prim.Native.Nat.{ℕ}
 use borrow.Author.Needs.{needs}
 use borrow.Author.Tests.{not-true, not-false}
 use Rattle.shelf.specs.Words.{words}
-use Rattle.shelf.proofs.PlaceLaws.{place-bad, place-lacks, place-good}
+use Rattle.shelf.proofs.hashlist.PlaceLaws.{place-bad, place-lacks, place-good}
 use Rattle.shelf.proofs.list.good_place.Statement.{statement}
 use Rattle.shelf.proofs.list.good_place.Tie as tie
 

@@ -9,7 +9,7 @@ use borrow.Author.Needs.{needs}
 use Rattle.shelf.specs.Words.{words}
 use Rattle.shelf.specs.HashList.{allListed}
 use Rattle.shelf.specs.Checking.{lowerGood, stripeFrom}
-use Rattle.shelf.proofs.PlaceLaws.{lower-none, lower-missing, lower-answers, lower-turn, stripe-start}
+use Rattle.shelf.proofs.hashlist.PlaceLaws.{lower-none, lower-missing, lower-answers, lower-turn, stripe-start}
 use Rattle.shelf.proofs.list.stripe_from.Statement.{statement}
 use Rattle.shelf.proofs.list.stripe_from.Tie as tie
 

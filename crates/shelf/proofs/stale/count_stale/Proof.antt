@@ -10,8 +10,8 @@ use borrow.Author.Needs.{needs}
 use Rattle.shelf.specs.Counting.{count}
 use Rattle.shelf.specs.Words.{words}
 use Rattle.shelf.specs.Checking.{leads}
-use Rattle.shelf.proofs.WalkLaws.{count-start, count-passed, count-left}
-use Rattle.shelf.proofs.StaleLaws.{led-count}
+use Rattle.shelf.proofs.general.WalkLaws.{count-start, count-passed, count-left}
+use Rattle.shelf.proofs.hashlist.StaleLaws.{led-count}
 use Rattle.shelf.proofs.stale.count_stale.Statement.{statement}
 use Rattle.shelf.proofs.stale.count_stale.Tie as tie
 

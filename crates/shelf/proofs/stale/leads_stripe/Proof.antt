@@ -10,8 +10,8 @@ use borrow.Author.Needs.{needs}
 use Rattle.shelf.specs.Counting.{any}
 use Rattle.shelf.specs.HashList.{listedIn}
 use Rattle.shelf.specs.Words.{words}
-use Rattle.shelf.proofs.WalkLaws.{any-zero}
-use Rattle.shelf.proofs.StaleLaws.{leads-unlisted, leads-by, lower-listed, lower-unlisted}
+use Rattle.shelf.proofs.general.WalkLaws.{any-zero}
+use Rattle.shelf.proofs.hashlist.StaleLaws.{leads-unlisted, leads-by, lower-listed, lower-unlisted}
 use Rattle.shelf.proofs.stale.leads_stripe.Statement.{statement}
 use Rattle.shelf.proofs.stale.leads_stripe.Tie as tie
 

@@ -5,7 +5,7 @@ use mathlib.Core.Path.{sym}
 use Prim.Native.Nat.{ℕ}
 use borrow.Author.Needs.{needs}
 use Rattle.shelf.specs.Words.{words}
-use Rattle.shelf.proofs.StaleLaws.{stale-high, stale-other, stale-lower}
+use Rattle.shelf.proofs.hashlist.StaleLaws.{stale-high, stale-other, stale-lower}
 use Rattle.shelf.proofs.stale.lower_stale.Statement.{statement}
 use Rattle.shelf.proofs.stale.lower_stale.Tie as tie
 

@@ -4,7 +4,7 @@ use Prim.Native.Nat.{_-_, _≤_, zero-le}
 use native.Mathlib.Omega.{arith}
 use borrow.Author.Needs.{needs}
 use Rattle.shelf.specs.Words.{words}
-use Rattle.shelf.proofs.StaleLaws.{Lowest, lowest-start, lowest-turn, lowest-done}
+use Rattle.shelf.proofs.hashlist.StaleLaws.{Lowest, lowest-start, lowest-turn, lowest-done}
 use Rattle.shelf.proofs.stale.lowest_stale.Statement.{statement}
 use Rattle.shelf.proofs.stale.lowest_stale.Tie as tie
 

@@ -6,7 +6,7 @@ use mathlib.Core.Path.{_∙_, ap}
 use native.Mathlib.Omega.{arith}
 use lib.Dec.{eqb}
 use Rattle.shelf.specs.Lent.{arrayLength, badLengths}
-use Rattle.shelf.proofs.InputLaws.{array-small, log-small}
+use Rattle.shelf.proofs.numbers.InputLaws.{array-small, log-small}
 use Rattle.shelf.proofs.status.bad_lengths.Statement.{statement}
 use Rattle.shelf.proofs.status.bad_lengths.Tie as tie
 

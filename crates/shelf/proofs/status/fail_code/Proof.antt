@@ -4,7 +4,7 @@ use borrow.Author.Needs.{needs}
 use mathlib.Core.Path.{_∙_, sym}
 use Rattle.shelf.specs.Lent.{flagAt, listedBy, numberOf, triesList}
 use Rattle.shelf.specs.Status.{codeOf, fail}
-use Rattle.shelf.proofs.CodeLaws.{code-passed, code-refused, range-passed}
+use Rattle.shelf.proofs.numbers.CodeLaws.{code-passed, code-refused, range-passed}
 use Rattle.shelf.proofs.status.fail_code.Statement.{statement}
 use Rattle.shelf.proofs.status.fail_code.Tie as tie
 

@@ -7,7 +7,7 @@ use Prim.Native.Nat.{_+_}
 use lib.Dec.{leb}
 use Rattle.shelf.specs.Lent.{flagAt}
 use Rattle.shelf.specs.Status.{alreadyFailed, badMember, codeOf, twoFailed}
-use Rattle.shelf.proofs.TableRows.{row-hit, row-pass}
+use Rattle.shelf.proofs.numbers.TableRows.{row-hit, row-pass}
 use Rattle.shelf.proofs.status.fail_rows.Statement.{statement}
 use Rattle.shelf.proofs.status.fail_rows.Tie as tie
 

@@ -5,8 +5,8 @@ use mathlib.Core.Bool.{not}
 use mathlib.Core.Path.{_∙_, ap, refl, sym}
 use lib.ListN.{length}
 use Rattle.shelf.specs.Lent.{badLengths, badList, badMeasures, badRecord, inputRows}
-use Rattle.shelf.proofs.InputLaws.{in-range, lengths-pass, measures-of}
-use Rattle.shelf.proofs.TableRows.{row-hit, row-pass}
+use Rattle.shelf.proofs.numbers.InputLaws.{in-range, lengths-pass, measures-of}
+use Rattle.shelf.proofs.numbers.TableRows.{row-hit, row-pass}
 use Rattle.shelf.proofs.status.input_code.Statement.{statement}
 use Rattle.shelf.proofs.status.input_code.Tie as tie
 

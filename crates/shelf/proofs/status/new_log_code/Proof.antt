@@ -4,7 +4,7 @@ use borrow.Author.Needs.{needs}
 use mathlib.Core.Path.{_∙_, sym}
 use Rattle.shelf.specs.Lent.{flagAt, listedBy, numberOf, triesList}
 use Rattle.shelf.specs.Status.{codeOf, newLog}
-use Rattle.shelf.proofs.CodeLaws.{code-passed, code-refused, new-log-is, range-passed}
+use Rattle.shelf.proofs.numbers.CodeLaws.{code-passed, code-refused, new-log-is, range-passed}
 use Rattle.shelf.proofs.status.new_log_code.Statement.{statement}
 use Rattle.shelf.proofs.status.new_log_code.Tie as tie
 

@@ -7,7 +7,7 @@ use mathlib.Core.Path.{_∙_, ap, refl, sym}
 use lib.Dec.{ltb}
 use Rattle.shelf.specs.Lent.{flagAt}
 use Rattle.shelf.specs.Status.{logSound}
-use Rattle.shelf.proofs.TableRows.{row-hit, row-pass}
+use Rattle.shelf.proofs.numbers.TableRows.{row-hit, row-pass}
 use Rattle.shelf.proofs.status.new_log_rows.Statement.{statement}
 use Rattle.shelf.proofs.status.new_log_rows.Tie as tie
 

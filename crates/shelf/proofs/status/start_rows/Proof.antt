@@ -7,8 +7,8 @@ use mathlib.Core.Path.{_∙_, ap, refl, sym}
 use Prim.Native.Nat.{_+_}
 use Rattle.shelf.specs.Lent.{flagAt}
 use Rattle.shelf.specs.Status.{arrayFailed, codeOf, logFailed, notNormal}
-use Rattle.shelf.proofs.FlagLaws.{failed-all}
-use Rattle.shelf.proofs.TableRows.{row-hit, row-pass}
+use Rattle.shelf.proofs.numbers.FlagLaws.{failed-all}
+use Rattle.shelf.proofs.numbers.TableRows.{row-hit, row-pass}
 use Rattle.shelf.proofs.status.start_rows.Statement.{statement}
 use Rattle.shelf.proofs.status.start_rows.Tie as tie
 

@@ -7,8 +7,8 @@ use lib.ListN.{length, take, replicate}
 use borrow.Author.Needs.{needs}
 use Rattle.shelf.specs.Words.{words}
 use Rattle.shelf.specs.HashList.{noneWord}
-use Rattle.shelf.proofs.WordLaws.{length-words}
-use Rattle.shelf.proofs.FillLaws.{fill-turn, fill-done}
+use Rattle.shelf.proofs.hashlist.WordLaws.{length-words}
+use Rattle.shelf.proofs.hashlist.FillLaws.{fill-turn, fill-done}
 use Rattle.shelf.proofs.words.fill_none.Statement.{statement}
 use Rattle.shelf.proofs.words.fill_none.Tie as tie
 

@@ -4,7 +4,7 @@ use mathlib.Core.Path.{refl, sym}
 use Prim.Native.Nat.{_+_, _*_}
 use native.Mathlib.Omega.{arith}
 use borrow.Author.Needs.{needs}
-use Rattle.shelf.proofs.WordLaws.{word-read}
+use Rattle.shelf.proofs.hashlist.WordLaws.{word-read}
 use Rattle.shelf.proofs.words.word.Statement.{statement}
 use Rattle.shelf.proofs.words.word.Tie as tie
 

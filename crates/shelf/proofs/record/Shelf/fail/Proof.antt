@@ -1,7 +1,7 @@
 -- `shelf::record::Shelf::fail` meets its contract.
 -- Assumes nothing.
 use borrow.Author.Needs.{needs}
-use Rattle.shelf.proofs.RecordLaws.{failed-is, mode-idle, mode-listed, mode-member, mode-other}
+use Rattle.shelf.proofs.numbers.RecordLaws.{failed-is, mode-idle, mode-listed, mode-member, mode-other}
 use Rattle.shelf.proofs.record.Shelf.fail.Statement.{statement}
 use Rattle.shelf.proofs.record.Shelf.fail.Tie as tie
 

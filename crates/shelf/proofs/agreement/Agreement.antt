@@ -1,0 +1,213 @@
+-- The agreement of shelf and book: what holds of a shelf's state and its book between any two calls. A fresh shelf agrees with a fresh book, and a
+-- shelf goes on agreeing when the bytes of failed members change.
+-- Assumes nothing.
+use mathlib.Core.Bool.{Bool, true, false, _||_}
+use mathlib.Core.List.{List}
+use mathlib.Core.Option.{Option, none, some}
+use mathlib.Core.Path.{_≡_, refl, sym, ap, ap₂, _∙_, subst}
+use Prim.Native.Nat.{ℕ, _≤_, _<_}
+use native.Mathlib.Omega.{arith}
+use Rattle.stripe.proofs.Laws.{member-lt}
+use lib.ListN.{length}
+use Rattle.shelf.specs.Counting.{count}
+use Rattle.shelf.specs.Members.{InRange, arrayMembers, logMember, allMembers, roleP, roleQ, memberAt, IsBlock, blank, blockP, blockQ}
+use Rattle.shelf.specs.State.{Log, State, isSome, listed, marksIn, freshState}
+use Rattle.shelf.specs.Status.{arrayFailed, logFailed}
+use Rattle.shelf.specs.Book.{Book, freshBook}
+use Rattle.shelf.specs.declared.record.Geometry.{Geometry}
+use Rattle.shelf.proofs.general.CountLaws.{any-none, none-count}
+use Rattle.shelf.proofs.agreement.RowParity.{blankP, blankQ, blank-block}
+use Rattle.shelf.proofs.agreement.ListedLaws.{never-some, marksIn-ext, no-marks}
+
+-- a block in each place of a table
+abbrev pub AreBlocks : Geometry → (ℕ → ℕ → List ℕ) → Type 0
+AreBlocks g f = (x i : ℕ) → x < g .s → i < g .d → IsBlock g (f x i)
+
+-- The log against the blocks held and the originals: the blocks that a stripe's parity was made of. lost: the log has failed, and its records may
+-- hold anything.
+pub record Noted (g : Geometry) (lost : Bool) (held orig : ℕ → ℕ → List ℕ) (n : Log) : Type 0 where
+  -- a block with no Cur is its own original
+  pub plain : (x i : ℕ) → x < g .s → i < g .d → n .cur x i ≡ none → orig x i ≡ held x i
+  -- an Ori is a record in use, of the original
+  pub oris : (x i : ℕ) → x < g .s → i < g .d → (r : ℕ) → n .ori x i ≡ some r → (r < n .next) × (lost ≡ false → n .value r ≡ orig x i)
+  -- a Cur is a record in use, of the block held
+  pub curs : (x i : ℕ) → x < g .s → i < g .d → (r : ℕ) → n .cur x i ≡ some r → (r < n .next) × (lost ≡ false → n .value r ≡ held x i)
+
+-- A state and its book, all but what holds where nothing is listed.
+pub record Nearly (g : Geometry) (s : State) (b : Book) : Type 0 where
+  pub mode : s .mode ≡ b .state .mode
+  pub next : s .log .next ≡ b .state .used
+  pub failed : s .failed ≡ b .failed
+  -- listed are the marked blocks
+  pub marks : (x i : ℕ) → x < g .s → i < g .d → listed (s .log) x i ≡ b .state .marks x i
+  -- a sound disk holds what the book holds
+  pub sound : (x i : ℕ) → x < g .s → i < g .d → s .failed (memberAt g x i) ≡ false → s .disk x i ≡ b .held x i
+  pub helds : AreBlocks g (b .held)
+  -- the originals
+  pub orig : ℕ → ℕ → List ℕ
+  pub origs : AreBlocks g orig
+  pub noted : Noted g (logFailed g (s .failed)) (b .held) orig (s .log)
+  -- sound parity is parity of the originals
+  pub p : (x : ℕ) → x < g .s → s .failed (memberAt g x (roleP g)) ≡ false → s .p x ≡ blockP g (orig x)
+  pub q : (x : ℕ) → x < g .s → s .failed (memberAt g x (roleQ g)) ≡ false → s .q x ≡ blockQ g (orig x)
+  -- a stripe with a listed block that has no Ori is listed whole
+  pub whole : (x i j : ℕ) → x < g .s → i < g .d → j < g .d → s .log .ori x i ≡ none → listed (s .log) x i ≡ true → listed (s .log) x j ≡ true
+  -- at most two members have failed; while accelerating, the log has not
+  pub two : count (allMembers g) (s .failed) ≤ 2
+  pub one : s .mode ≡ 1 → logFailed g (s .failed) ≡ false
+
+-- What number 1 asks of a record, beside what `Nearly` and `Agrees` say.
+pub record Valid (g : Geometry) (s : State) : Type 0 where
+  pub room : s .log .next ≤ g .l
+  pub fits : marksIn g (listed (s .log)) ≤ g .e
+  pub modes : s .mode ≤ 2
+  pub zero : s .mode ≡ 0 → marksIn g (listed (s .log)) ≡ 0
+  pub top : (i : ℕ) → allMembers g ≤ i → s .failed i ≡ false
+
+pub record Agrees (g : Geometry) (s : State) (b : Book) : Type 0 where
+  pub near : Nearly g s b
+  pub valid : Valid g s
+  -- where nothing is listed, every log record is free and the mode is not 2
+  pub idle : marksIn g (listed (s .log)) ≡ 0 → (s .log .next ≡ 0) × (s .mode ≡ 2 → ⊥)
+
+-- there is a data disk
+pub positive : {g : Geometry} → InRange g → 0 < g .d
+positive Y = omega (arith, Y .d-least)
+
+-- where no array member has failed, every disk holds what the book holds
+pub all-sound : {g : Geometry} {s : State} {b : Book} → Nearly g s b → arrayFailed g (s .failed) ≡ false
+    → (x i : ℕ) → x < g .s → i < g .d → s .disk x i ≡ b .held x i
+all-sound {g} {s} {b} A ok x i hx hi =
+    A .sound x i hx hi (any-none (arrayMembers g) (s .failed) ok (memberAt g x i) (member-lt (g .d) x i (omega arith)))
+
+-- of the blocks held, only those within the geometry matter
+pub held-ext : (g : Geometry) (s : State) (b : Book) (h : ℕ → ℕ → List ℕ) → ((x i : ℕ) → x < g .s → i < g .d → h x i ≡ b .held x i)
+    → Agrees g s b → Agrees g s (record { held = h; failed = b .failed; state = b .state })
+held-ext g s b h e A =
+    let N = A .near in
+    record {
+      near =
+          record {
+            mode = N .mode;
+            next = N .next;
+            failed = N .failed;
+            marks = N .marks;
+            sound = λ x i hx hi f. N .sound x i hx hi f ∙ sym (e x i hx hi);
+            helds = λ x i hx hi. subst (IsBlock g) (sym (e x i hx hi)) (N .helds x i hx hi);
+            orig = N .orig;
+            origs = N .origs;
+            noted =
+                record {
+                  plain = λ x i hx hi c. N .noted .plain x i hx hi c ∙ sym (e x i hx hi);
+                  oris = N .noted .oris;
+                  curs = λ x i hx hi r c. let a = N .noted .curs x i hx hi r c in (a .0, λ l. a .1 l ∙ sym (e x i hx hi));
+                };
+            p = N .p;
+            q = N .q;
+            whole = N .whole;
+            two = N .two;
+            one = N .one;
+          };
+      valid = A .valid;
+      idle = A .idle;
+    }
+
+-- ---- a fresh shelf
+
+pub fresh-agrees : (g : Geometry) → Agrees g (freshState g) (freshBook g)
+unfolding freshState freshBook isSome
+fresh-agrees g =
+    record {
+      near =
+          record {
+            mode = refl;
+            next = refl;
+            failed = refl;
+            marks = λ x i _ _. refl;
+            sound = λ x i _ _ _. refl;
+            helds = λ x i _ _. blank-block g;
+            orig = λ _ _. blank g;
+            origs = λ x i _ _. blank-block g;
+            noted = record { plain = λ x i _ _ _. refl; oris = λ x i _ _ r e. absurd (never-some e); curs = λ x i _ _ r e. absurd (never-some e) };
+            p = λ x _ _. sym (blankP g);
+            q = λ x _ _. sym (blankQ g);
+            whole = λ x i j _ _ _ _ e. e;
+            two = omega (arith, none-count (allMembers g) (λ _. false) (λ i _. refl));
+            one = λ _. refl;
+          };
+      valid = record { room = omega arith; fits = omega (arith, no-marks g); modes = omega arith; zero = λ _. no-marks g; top = λ i _. refl };
+      idle = λ _. (refl, λ e. omega arith);
+    }
+
+-- ---- failed members' bytes
+
+-- t is s but for failed members' blocks and whatever lies outside the geometry
+pub record Alike (g : Geometry) (s t : State) : Type 0 where
+  pub disk : (x i : ℕ) → x < g .s → i < g .d → s .failed (memberAt g x i) ≡ false → t .disk x i ≡ s .disk x i
+  pub p : (x : ℕ) → x < g .s → s .failed (memberAt g x (roleP g)) ≡ false → t .p x ≡ s .p x
+  pub q : (x : ℕ) → x < g .s → s .failed (memberAt g x (roleQ g)) ≡ false → t .q x ≡ s .q x
+  pub log : (r : ℕ) → r < g .l → logFailed g (s .failed) ≡ false → length (s .log .value r) ≡ g .b → t .log .value r ≡ s .log .value r
+  pub next : t .log .next ≡ s .log .next
+  pub ori : (x i : ℕ) → x < g .s → i < g .d → t .log .ori x i ≡ s .log .ori x i
+  pub cur : (x i : ℕ) → x < g .s → i < g .d → t .log .cur x i ≡ s .log .cur x i
+  pub mode : t .mode ≡ s .mode
+  pub failed : t .failed ≡ s .failed
+
+module _ {g : Geometry} {s t : State} {b : Book} (L : Alike g s t) (A : Agrees g s b) where
+  abbrev N : Nearly g s b
+  N = A .near
+
+  seen : (x i : ℕ) → x < g .s → i < g .d → listed (t .log) x i ≡ listed (s .log) x i
+  seen x i hx hi = ap₂ (λ (o c : Option ℕ). isSome o || isSome c) (L .ori x i hx hi) (L .cur x i hx hi)
+
+  count-seen : marksIn g (listed (t .log)) ≡ marksIn g (listed (s .log))
+  count-seen = marksIn-ext g (listed (t .log)) (listed (s .log)) seen
+
+  member : (i : ℕ) → s .failed i ≡ t .failed i
+  member i = ap (λ (f : ℕ → Bool). f i) (sym (L .failed))
+
+  pub alike-agrees : Agrees g t b
+  alike-agrees =
+      record {
+        near =
+            record {
+              mode = L .mode ∙ N .mode;
+              next = L .next ∙ N .next;
+              failed = L .failed ∙ N .failed;
+              marks = λ x i hx hi. seen x i hx hi ∙ N .marks x i hx hi;
+              sound = λ x i hx hi e. L .disk x i hx hi (member (memberAt g x i) ∙ e) ∙ N .sound x i hx hi (member (memberAt g x i) ∙ e);
+              helds = N .helds;
+              orig = N .orig;
+              origs = N .origs;
+              noted =
+                  record {
+                    plain = λ x i hx hi e. N .noted .plain x i hx hi (sym (L .cur x i hx hi) ∙ e);
+                    oris = λ x i hx hi r e. kept r (N .orig x i) (N .origs x i hx hi .0) (N .noted .oris x i hx hi r (sym (L .ori x i hx hi) ∙ e));
+                    curs = λ x i hx hi r e. kept r (b .held x i) (N .helds x i hx hi .0) (N .noted .curs x i hx hi r (sym (L .cur x i hx hi) ∙ e));
+                  };
+              p = λ x hx e. L .p x hx (member (memberAt g x (roleP g)) ∙ e) ∙ N .p x hx (member (memberAt g x (roleP g)) ∙ e);
+              q = λ x hx e. L .q x hx (member (memberAt g x (roleQ g)) ∙ e) ∙ N .q x hx (member (memberAt g x (roleQ g)) ∙ e);
+              whole = λ x i j hx hi hj e e'. seen x j hx hj ∙ N .whole x i j hx hi hj (sym (L .ori x i hx hi) ∙ e) (sym (seen x i hx hi) ∙ e');
+              two = rw (L .failed) (N .two);
+              one = λ e. sym (member (logMember g)) ∙ N .one (sym (L .mode) ∙ e);
+            };
+        valid =
+            record {
+              room = omega (arith, A .valid .room, L .next);
+              fits = omega (arith, A .valid .fits, count-seen);
+              modes = omega (arith, A .valid .modes, L .mode);
+              zero = λ e. count-seen ∙ A .valid .zero (sym (L .mode) ∙ e);
+              top = λ i h. sym (member i) ∙ A .valid .top i h;
+            };
+        idle = λ e. let w = A .idle (sym count-seen ∙ e) in (L .next ∙ w .0, λ z. w .1 (sym (L .mode) ∙ z));
+      }
+    where
+      -- a record in use
+      kept : (r : ℕ) (v : List ℕ) → length v ≡ g .b → (r < s .log .next) × (logFailed g (s .failed) ≡ false → s .log .value r ≡ v)
+          → (r < t .log .next) × (logFailed g (t .failed) ≡ false → t .log .value r ≡ v)
+      kept r v long w = (
+        omega (arith, w .0, L .next),
+        λ z.
+            let same = w .1 (member (logMember g) ∙ z) in
+            L .log r (omega (arith, w .0, A .valid .room)) (member (logMember g) ∙ z) (ap length same ∙ long) ∙ same,
+      )

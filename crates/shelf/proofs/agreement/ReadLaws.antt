@@ -1,0 +1,148 @@
+-- What a read gives is what the book holds.
+-- Assumes nothing.
+use mathlib.Core.Bool.{Bool, true, false, not, _&&_}
+use mathlib.Core.List.{List}
+use mathlib.Core.Option.{Option, none, some}
+use mathlib.Core.Path.{_≡_, refl, sym, ap, ap₂, _∙_, subst}
+use Prim.Native.Nat.{ℕ, _+_, _/_, _%_, _≤_, _<_}
+use native.Mathlib.Decide.{decLt}
+use native.Mathlib.Nat.{mod-lt}
+use native.Mathlib.Omega.{arith}
+use lib.Dec.{eqb, ltb}
+use borrow.Author.Tests.{eq-eqb, ne-eqb, lt-ltb, le-ltb}
+use Rattle.stripe.proofs.Laws.{member-lt, member-inj}
+use Rattle.shelf.specs.Counting.{choose, count}
+use Rattle.shelf.specs.Members.{InRange, arrayMembers, allMembers, roleP, memberAt, blockP, blockQ, workedBack}
+use Rattle.shelf.specs.State.{State, isSome, listed, stale}
+use Rattle.shelf.specs.Status.{read, logFailed, withheld}
+use Rattle.shelf.specs.Calls.{orElse, original, missing, blockAt, served, code}
+use Rattle.shelf.specs.Book.{Book}
+use Rattle.shelf.specs.declared.record.Geometry.{Geometry}
+use Rattle.shelf.proofs.general.CountLaws.{any-none, count-more, no-three-roles}
+use Rattle.shelf.proofs.general.TestLaws.{cases, clash, choose-true, choose-false}
+use Rattle.shelf.proofs.agreement.RowParity.{worked-exact}
+use Rattle.shelf.proofs.agreement.ListedLaws.{opt-cases, some-is, unlisted, ori-listed, none-listed}
+use Rattle.shelf.proofs.agreement.Agreement.{Nearly, positive}
+use Rattle.shelf.proofs.agreement.StatusLaws.{in-stripe, read-passed}
+
+module _ (g : Geometry) (Y : InRange g) (s : State) (b : Book) (A : Nearly g s b) (x : ℕ) (hx : x < g .s) where
+  -- Where each listed block has an Ori, and each Ori record is its original, parity gives the originals.
+  module _ (have : (j : ℕ) → j < g .d → s .log .ori x j ≡ none → listed (s .log) x j ≡ false)
+      (hold : (j r : ℕ) → j < g .d → s .log .ori x j ≡ some r → s .log .value r ≡ A .orig x j) where
+    missing-some : (j r : ℕ) → j < g .d → s .log .ori x j ≡ some r → missing g s x j ≡ false
+    unfolding choose
+    missing-some j r h e =
+        ap₂ (λ (t u : Bool). choose (t && u) (not (isSome (s .log .ori x j))) (s .failed (memberAt g x j))) (lt-ltb j (g .d) h)
+        (ori-listed (s .log) x j r e)
+        ∙ ap not (some-is (s .log .ori x j) r e)
+
+    missing-none : (j : ℕ) → j < g .d → s .log .ori x j ≡ none → missing g s x j ≡ s .failed (memberAt g x j)
+    unfolding choose
+    missing-none j h e =
+        ap₂ (λ (t u : Bool). choose (t && u) (not (isSome (s .log .ori x j))) (s .failed (memberAt g x j))) (lt-ltb j (g .d) h) (have j h e)
+
+    missing-parity : (j : ℕ) → g .d ≤ j → missing g s x j ≡ s .failed (memberAt g x j)
+    unfolding choose
+    missing-parity j h =
+        ap (λ (t : Bool). choose (t && listed (s .log) x j) (not (isSome (s .log .ori x j))) (s .failed (memberAt g x j))) (le-ltb j (g .d) h)
+
+    -- missing is on a failed member, so no three are
+    missing-failed : (j : ℕ) → missing g s x j ≡ true → s .failed (memberAt g x j) ≡ true
+    missing-failed j e =
+        elim (decLt j (g .d)) [
+          | yes h ↦ opt-cases (s .log .ori x j) (λ o. sym (missing-none j h o) ∙ e) (λ r o. clash e (missing-some j r h o))
+          | no h ↦ sym (missing-parity j (omega arith)) ∙ e
+        ]
+
+    few : (i j l : ℕ) → i < j → j < l → l < g .d + 2 → missing g s x i ≡ true → missing g s x j ≡ true → missing g s x l ≡ true → ⊥
+    few i j l ij jl ln ei ej el =
+        let e : arrayMembers g + 1 ≡ allMembers g = omega arith in
+        let c : count (arrayMembers g) (s .failed) ≤ count (allMembers g) (s .failed) =
+        subst (λ (z : ℕ). count (arrayMembers g) (s .failed) ≤ count z (s .failed)) e (count-more (arrayMembers g) 1 (s .failed)) in
+        no-three-roles (arrayMembers g) (s .failed) (memberAt g x) (member-lt (g .d) x) (member-inj (g .d) x) (omega (arith, A .two)) i j l ij jl ln
+        (missing-failed i ei) (missing-failed j ej) (missing-failed l el)
+
+    original-data : (j : ℕ) → j < g .d → missing g s x j ≡ false → original g s x j ≡ A .orig x j
+    original-data j h e =
+        choose-true (ltb j (g .d)) (orElse (s .log .ori x j) (s .log .value) (s .disk x j)) (choose (eqb j (roleP g)) (s .p x) (s .q x))
+        (lt-ltb j (g .d) h)
+        ∙ opt-cases (s .log .ori x j)
+        (λ o.
+        ap (λ (z : Option ℕ). orElse z (s .log .value) (s .disk x j)) o ∙ A .sound x j hx h (sym (missing-none j h o) ∙ e)
+        ∙ sym (A .noted .plain x j hx h (unlisted (s .log) x j (have j h o) .1)))
+        (λ r o. ap (λ (z : Option ℕ). orElse z (s .log .value) (s .disk x j)) o ∙ hold j r h o)
+
+    original-parity : (j : ℕ) → g .d ≤ j → original g s x j ≡ choose (eqb j (roleP g)) (s .p x) (s .q x)
+    original-parity j h =
+        choose-false (ltb j (g .d)) (orElse (s .log .ori x j) (s .log .value) (s .disk x j)) (choose (eqb j (roleP g)) (s .p x) (s .q x))
+        (le-ltb j (g .d) h)
+
+    original-p : missing g s x (g .d) ≡ false → original g s x (g .d) ≡ blockP g (A .orig x)
+    original-p e =
+        original-parity (g .d) (omega arith) ∙ choose-true (eqb (g .d) (roleP g)) (s .p x) (s .q x) (eq-eqb (g .d) (g .d) refl)
+        ∙ A .p x hx (sym (missing-parity (g .d) (omega arith)) ∙ e)
+
+    original-q : missing g s x (g .d + 1) ≡ false → original g s x (g .d + 1) ≡ blockQ g (A .orig x)
+    original-q e =
+        original-parity (g .d + 1) (omega arith)
+        ∙ choose-false (eqb (g .d + 1) (roleP g)) (s .p x) (s .q x) (ne-eqb (g .d + 1) (g .d) (λ z. omega arith))
+        ∙ A .q x hx (sym (missing-parity (g .d + 1) (omega arith)) ∙ e)
+
+    -- a block without Ori on a failed disk
+    worked-back : (i : ℕ) → i < g .d → s .log .ori x i ≡ none → s .failed (memberAt g x i) ≡ true
+        → workedBack g (missing g s x) (original g s x) i ≡ A .orig x i
+    worked-back i h o f =
+        worked-exact g (Y .d-most) (missing g s x) (original g s x) (A .orig x) few (λ j hj. A .origs x j hx hj)
+        original-data original-p original-q i h
+        (missing-none i h o ∙ f)
+
+  -- a block that is not withheld
+  pub block-exact : (i : ℕ) → i < g .d → withheld g (s .failed) (listed (s .log)) x i ≡ false → blockAt g s x i ≡ b .held x i
+  unfolding blockAt
+  block-exact i h nw =
+      cases (s .failed (memberAt g x i)) lost (λ e. choose-false (s .failed (memberAt g x i)) _ (s .disk x i) e ∙ A .sound x i hx h e)
+    where
+      worked : List ℕ
+      worked = workedBack g (missing g s x) (original g s x) i
+
+      found : Option ℕ → Option ℕ → List ℕ
+      found c o = orElse c (s .log .value) (orElse o (s .log .value) worked)
+
+      by-parity : s .log .cur x i ≡ none → s .log .ori x i ≡ none → worked ≡ A .orig x i
+          → found (s .log .cur x i) (s .log .ori x i) ≡ b .held x i
+      by-parity c o w = ap₂ found c o ∙ w ∙ A .noted .plain x i hx h c
+
+      -- the log has failed: the stripe is not stale
+      log-lost : s .failed (memberAt g x i) ≡ true → logFailed g (s .failed) ≡ true → found (s .log .cur x i) (s .log .ori x i) ≡ b .held x i
+      log-lost e l =
+          let fresh : stale g (listed (s .log)) x ≡ false = sym (ap₂ (λ (t u : Bool). t && (u && stale g (listed (s .log)) x)) l e) ∙ nw in
+          let un : (j : ℕ) → j < g .d → listed (s .log) x j ≡ false = any-none (g .d) (listed (s .log) x) fresh in
+          by-parity (unlisted (s .log) x i (un i h) .1) (unlisted (s .log) x i (un i h) .0)
+          (worked-back (λ j hj _. un j hj) (λ j r hj o. clash (ori-listed (s .log) x j r o) (un j hj)) i h (unlisted (s .log) x i (un i h) .0) e)
+
+      -- the log is sound: Cur, else Ori, else parity, which an unlisted block's stripe has originals for
+      log-sound : s .failed (memberAt g x i) ≡ true → logFailed g (s .failed) ≡ false → found (s .log .cur x i) (s .log .ori x i) ≡ b .held x i
+      log-sound e l =
+          opt-cases (s .log .cur x i)
+          (λ c.
+          opt-cases (s .log .ori x i)
+          (λ o.
+          by-parity c o
+          (worked-back
+          (λ j hj oj. cases (listed (s .log) x j) (λ t. clash (A .whole x j i hx hj h oj t) (none-listed (s .log) x i o c)) (λ t. t))
+          (λ j r hj oj. A .noted .oris x j hx hj r oj .1 l) i h o e))
+          (λ r o. ap₂ found c o ∙ A .noted .oris x i hx h r o .1 l ∙ A .noted .plain x i hx h c))
+          (λ r c. ap (λ (z : Option ℕ). found z (s .log .ori x i)) c ∙ A .noted .curs x i hx h r c .1 l)
+
+      lost : s .failed (memberAt g x i) ≡ true
+          → choose (s .failed (memberAt g x i)) (found (s .log .cur x i) (s .log .ori x i)) (s .disk x i) ≡ b .held x i
+      lost e =
+          choose-true (s .failed (memberAt g x i)) (found (s .log .cur x i) (s .log .ori x i)) (s .disk x i) e
+          ∙ cases (logFailed g (s .failed)) (log-lost e) (log-sound e)
+
+-- each block that an accepted read serves
+pub nearly-read : (g : Geometry) → InRange g → (s : State) (b : Book) → Nearly g s b → (a n len : ℕ) → code g (read a n len) s ≡ 0
+    → (j : ℕ) → j < n → served g s a j ≡ b .held ((a + j) / g .d) ((a + j) % g .d)
+nearly-read g Y s b A a n len z j h =
+    let r = read-passed g s a n len z in
+    block-exact g Y s b A ((a + j) / g .d) (in-stripe g (positive Y) a n (r .0) j h) ((a + j) % g .d) (mod-lt (a + j) (positive Y)) (r .1 j h)

@@ -1,0 +1,16 @@
+pub mod ListMeaning
+pub mod ListMarks
+pub mod NumberThree
+pub mod ChainLaws
+pub mod FoundLaws
+pub mod CheckLaws
+pub mod PlaceLaws
+pub mod EncodeLaws
+pub mod DecodeLaws
+pub mod PickLaws
+pub mod GatherLaws
+pub mod TableLaws
+pub mod AlterLaws
+pub mod FillLaws
+pub mod StaleLaws
+pub mod WordLaws

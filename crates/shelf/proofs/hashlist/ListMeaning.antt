@@ -1,0 +1,263 @@
+-- What a list says of each block address, of a list that passes number 3, of one whose entries of a stripe were dropped or replaced, and of
+-- one that is all none. What is above the list cites these laws.
+-- Assumes nothing.
+use mathlib.Core.Bool.{true, not, _&&_}
+use mathlib.Core.List.{List, [], _∷_}
+use mathlib.Core.Logic.{⊎-elim, _≢_}
+use mathlib.Core.Path.{_≡_, refl, sym, ap, ap₂, _∙_, subst}
+use Prim.Native.Nat.{ℕ, _+_, _*_, _/_, _≤_, _<_}
+use native.Mathlib.Nat.{mul-comm}
+use native.Mathlib.Omega.{arith}
+use lib.Dec.{eqb, ltb}
+use lib.ListN.{length, replicate}
+use borrow.Author.Tests.{eq-eqb, lt-ltb, le-ltb, eqb-true, ltb-true, ltb-false}
+use Rattle.shelf.specs.declared.record.Geometry.{Geometry}
+use Rattle.shelf.specs.Counting.{choose, count, total}
+use Rattle.shelf.specs.Words.{words}
+use Rattle.shelf.specs.HashList.{noneWord, addressAt, oriAt, lookup, isRecord, allListed, goodStripe, valid, Passing, Entry, entry, entryAt, said, entries}
+use Rattle.shelf.specs.Rewriting.{encode, putAll, dropStripe, merged, at3, Segment, Rewritten}
+use Rattle.shelf.proofs.general.TestLaws.{either-way, choose-true, choose-false}
+use Rattle.shelf.proofs.general.AddressLaws.{stripe-of}
+use Rattle.shelf.proofs.hashlist.ChainLaws.{placeOf, length-putN, lookup-encode}
+use Rattle.shelf.proofs.general.WalkLaws.{countFrom, countFrom-rows}
+use Rattle.shelf.proofs.hashlist.PlaceLaws.{listed-each}
+use Rattle.shelf.proofs.hashlist.EncodeLaws.{Fit, encode-valid}
+use Rattle.shelf.proofs.hashlist.FoundLaws.{found-address, found-sound, length-entries, entries-count}
+use Rattle.shelf.proofs.hashlist.GatherLaws.{entries-rising, merged-new, length-merged}
+use Rattle.shelf.proofs.hashlist.AlterLaws.{dropped, Altered, altered}
+use Rattle.shelf.proofs.hashlist.PickLaws.{pickE, looked, unlisted, pick-new, pick-gone, pick-others}
+
+pub passing : (w : List ℕ) (g : Geometry) (next listed : ℕ) → valid w g next listed ≡ true → Passing w g
+passing w g next listed v = record { next = next; listed = listed; passing = v }
+
+pub length-encode : (g : Geometry) (es : List Entry) → 0 < g .h → g .e ≤ 4096 → length (encode g es) ≡ g .h + 4 * g .e
+unfolding encode
+length-encode g es hpos small = length-putN (g .h) (g .e) hpos small 0 es
+
+-- ---- a list that passes number 3
+
+module _ (w : List ℕ) (g : Geometry) (next listed : ℕ) (hpos : 0 < g .h) (dpos : 0 < g .d) (small : g .e ≤ 4096)
+    (v : valid w g next listed ≡ true) where
+  said-there : (a : ℕ) → lookup w g a < g .e → said w g a ≡ entryAt w g (lookup w g a)
+  unfolding said
+  said-there a o =
+      choose-true (ltb (lookup w g a) (g .e)) (entryAt w g (lookup w g a)) (entry a noneWord noneWord) (lt-ltb (lookup w g a) (g .e) o)
+
+  said-not : (a : ℕ) → g .e ≤ lookup w g a → said w g a ≡ entry a noneWord noneWord
+  unfolding said
+  said-not a o =
+      choose-false (ltb (lookup w g a) (g .e)) (entryAt w g (lookup w g a)) (entry a noneWord noneWord) (le-ltb (lookup w g a) (g .e) o)
+
+  -- what the list says is what its entries say
+  pub said-entries : (a : ℕ) → pickE (entries w g) a ≡ said w g a
+  said-entries a =
+      ⊎-elim
+      (λ t. let o = ltb-true (lookup w g a) (g .e) t in looked w g next listed hpos dpos small v a o ∙ sym (said-there a o))
+      (λ t. let o = ltb-false (lookup w g a) (g .e) t in unlisted w g next listed hpos dpos small v a o ∙ sym (said-not a o))
+      (either-way (ltb (lookup w g a) (g .e)))
+
+  pub said-address : (a : ℕ) → said w g a .address ≡ a
+  said-address a =
+      ⊎-elim
+      (λ t. let o = ltb-true (lookup w g a) (g .e) t in ap (λ (x : Entry). x .address) (said-there a o)
+      ∙ found-address w g next listed hpos dpos small v a o)
+      (λ t. ap (λ (x : Entry). x .address) (said-not a (ltb-false (lookup w g a) (g .e) t)))
+      (either-way (ltb (lookup w g a) (g .e)))
+
+  -- a block is listed where the list says Ori or Cur of it
+  pub said-listed : (a : ℕ) → not (eqb (said w g a .ori) noneWord && eqb (said w g a .cur) noneWord) ≡ ltb (lookup w g a) (g .e)
+  said-listed a =
+      ⊎-elim
+      (λ t. let o = ltb-true (lookup w g a) (g .e) t in
+      ap (λ (x : Entry). not (eqb (x .ori) noneWord && eqb (x .cur) noneWord)) (said-there a o)
+      ∙ found-sound w g next listed hpos dpos small v a o .entry-is .some ∙ sym t)
+      (λ t. ap (λ (x : Entry). not (eqb (x .ori) noneWord && eqb (x .cur) noneWord)) (said-not a (ltb-false (lookup w g a) (g .e) t))
+      ∙ sym t)
+      (either-way (ltb (lookup w g a) (g .e)))
+
+  -- Ori and Cur are none or below next
+  pub said-ori : (a : ℕ) → isRecord (said w g a .ori) next ≡ true
+  unfolding isRecord
+  said-ori a =
+      ⊎-elim
+      (λ t. let o = ltb-true (lookup w g a) (g .e) t in ap (λ (x : Entry). isRecord (x .ori) next) (said-there a o)
+      ∙ found-sound w g next listed hpos dpos small v a o .entry-is .ori)
+      (λ t. ap (λ (x : Entry). isRecord (x .ori) next) (said-not a (ltb-false (lookup w g a) (g .e) t)))
+      (either-way (ltb (lookup w g a) (g .e)))
+
+  pub said-cur : (a : ℕ) → isRecord (said w g a .cur) next ≡ true
+  unfolding isRecord
+  said-cur a =
+      ⊎-elim
+      (λ t. let o = ltb-true (lookup w g a) (g .e) t in ap (λ (x : Entry). isRecord (x .cur) next) (said-there a o)
+      ∙ found-sound w g next listed hpos dpos small v a o .entry-is .cur)
+      (λ t. ap (λ (x : Entry). isRecord (x .cur) next) (said-not a (ltb-false (lookup w g a) (g .e) t)))
+      (either-way (ltb (lookup w g a) (g .e)))
+
+  -- a listed block that lacks Ori has no unlisted block in its stripe
+  pub said-whole : (x i : ℕ) → i < g .d → lookup w g (x * g .d + i) < g .e → said w g (x * g .d + i) .ori ≡ noneWord → (k : ℕ) → k < g .d
+      → lookup w g (x * g .d + k) < g .e
+  unfolding goodStripe
+  said-whole x i il o n k kl =
+      let a : ℕ = x * g .d + i in
+      let p : ℕ = lookup w g (x * g .d + i) in
+      let s = found-sound w g next listed hpos dpos small v (x * g .d + i) o in
+      let lacks : oriAt w (g .h) p ≡ noneWord = ap (λ (z : Entry). z .ori) (sym (said-there (x * g .d + i) o)) ∙ n in
+      let b : ℕ = addressAt w (g .h) p in
+      let all : allListed (g .d) w g (b / g .d * g .d) ≡ true =
+      sym (choose-true (eqb (oriAt w (g .h) p) noneWord) (allListed (g .d) w g (b / g .d * g .d)) true
+      (eq-eqb (oriAt w (g .h) p) noneWord lacks)) ∙ s .stripe in
+      let base : b / g .d ≡ x = ap (λ (j : ℕ). j / g .d) (found-address w g next listed hpos dpos small v (x * g .d + i) o)
+      ∙ stripe-of x (g .d) i il in
+      subst (λ (j : ℕ). lookup w g (j * g .d + k) < g .e) base (listed-each (g .d) w g (b / g .d * g .d) k all kl)
+
+  -- as many blocks are listed as the count says
+  pub listed-count : total (g .s) (λ x. count (g .d) (λ i. ltb (lookup w g (x * g .d + i)) (g .e))) ≡ listed
+  unfolding entries
+  listed-count =
+      countFrom-rows (g .s) (g .d) (λ a. ltb (lookup w g a) (g .e))
+      ∙ ap (λ (n : ℕ). countFrom n (λ a. ltb (lookup w g a) (g .e)) 0) (mul-comm (g .s) (g .d))
+      ∙ sym (length-entries (g .d * g .s) w g 0) ∙ entries-count w g next listed hpos dpos small v
+
+-- ---- a list of nones
+
+pub encode-none : (g : Geometry) → encode g [] ≡ replicate (g .h + 4 * g .e) noneWord
+unfolding encode putAll
+encode-none g = refl
+
+pub none-valid : (g : Geometry) (next : ℕ) → 0 < g .h → g .e ≤ 4096 → valid (encode g []) g next 0 ≡ true
+none-valid g next hpos small = encode-valid g next 0 [] hpos small (omega arith) refl tt tt
+
+pub none-listed : (g : Geometry) (a : ℕ) → 0 < g .h → g .e ≤ 4096 → lookup (encode g []) g a ≡ noneWord
+unfolding placeOf
+none-listed g a hpos small = lookup-encode g hpos small [] a (omega arith)
+
+pub none-said : (g : Geometry) (a : ℕ) → 0 < g .h → g .e ≤ 4096 → said (encode g []) g a ≡ entry a noneWord noneWord
+unfolding said
+none-said g a hpos small =
+    let q : lookup (encode g []) g a ≡ noneWord = none-listed g a hpos small in
+    choose-false (ltb (lookup (encode g []) g a) (g .e)) (entryAt (encode g []) g (lookup (encode g []) g a)) (entry a noneWord noneWord)
+    (le-ltb (lookup (encode g []) g a) (g .e) (omega arith))
+
+length-none : (es : List Entry) → length es ≡ 0 → es ≡ []
+length-none [] e = refl
+length-none (x ∷ xs) e = absurd (omega arith)
+
+-- ---- stripe k's entries dropped: l is the list after, n its count
+
+module _ (w : List ℕ) (g : Geometry) (next listed : ℕ) (hpos : 0 < g .h) (dpos : 0 < g .d) (small : g .e ≤ 4096) (room : listed ≤ g .e)
+    (v : valid w g next listed ≡ true)
+    (k n : ℕ) (l : List ℕ) (r : Rewritten g (dropStripe (g .d) k (entries w g)) l n) where
+  pub dropped-valid : valid (words l) g next n ≡ true
+  dropped-valid =
+      ap₂ (λ (u : List ℕ) (j : ℕ). valid u g next j) (r .1 .0) (r .1 .1) ∙ dropped w g next listed k hpos dpos small room v .passes
+
+  -- with next 0 where no entry is left
+  pub dropped-left : valid (words l) g (choose (eqb n 0) 0 next) n ≡ true
+  dropped-left =
+      ⊎-elim
+      (λ y.
+      let z : n ≡ 0 = eqb-true n 0 y in
+      ap₂ (λ (x j : ℕ). valid (words l) g x j) (choose-true (eqb n 0) 0 next y) z
+      ∙ ap (λ (u : List ℕ). valid u g 0 0) (r .1 .0 ∙ ap (encode g) (length-none (dropStripe (g .d) k (entries w g)) (sym (r .1 .1) ∙ z)))
+      ∙ none-valid g 0 hpos small)
+      (λ y. ap (λ (x : ℕ). valid (words l) g x n) (choose-false (eqb n 0) 0 next y) ∙ dropped-valid)
+      (either-way (eqb n 0))
+
+  dropped-entries : entries (words l) g ≡ dropStripe (g .d) k (entries w g)
+  dropped-entries = ap (λ (u : List ℕ). entries u g) (r .1 .0) ∙ dropped w g next listed k hpos dpos small room v .stands
+
+  after : (a : ℕ) → said (words l) g a ≡ pickE (dropStripe (g .d) k (entries w g)) a
+  after a = sym (said-entries (words l) g next n hpos dpos small dropped-valid a) ∙ ap (λ (es : List Entry). pickE es a) dropped-entries
+
+  pub dropped-gone : (a : ℕ) → a / g .d ≡ k → said (words l) g a ≡ entry a noneWord noneWord
+  unfolding merged
+  dropped-gone a q =
+      after a ∙ pick-gone (g .d) k 0 [] (entries w g) (entries-rising w g next listed hpos dpos small v) nothing a q
+      (λ j o. absurd (omega arith))
+    where
+      nothing : Segment (g .d) k 0 []
+      nothing = record { stripe = λ j o. absurd (omega arith); up = λ i j o h. absurd (omega arith) }
+
+  pub dropped-kept : (a : ℕ) → a / g .d ≢ k → said (words l) g a ≡ said w g a
+  unfolding merged
+  dropped-kept a q =
+      after a ∙ pick-others (g .d) k 0 [] (entries w g) (entries-rising w g next listed hpos dpos small v) nothing a q
+      ∙ said-entries w g next listed hpos dpos small v a
+    where
+      nothing : Segment (g .d) k 0 []
+      nothing = record { stripe = λ j o. absurd (omega arith); up = λ i j o h. absurd (omega arith) }
+
+-- ---- stripe k's entries replaced by the c entries of y: l is the list after, n its count
+
+-- address a is that of one of the first c entries of y
+pub record Indexed (a c : ℕ) (y : List ℕ) : Type 0 where
+  pub index : ℕ
+  pub under : index < c
+  pub is : at3 y index .address ≡ a
+
+-- the new entries are as number 3 asks, with the next free record x: their records are below x, not both are none, and where one lacks
+-- Ori every block of the stripe is among them
+pub record NewRow (g : Geometry) (k c x : ℕ) (y : List ℕ) : Type 0 where
+  pub there : k < g .s
+  pub segment : Segment (g .d) k c y
+  pub ori : (j : ℕ) → j < c → isRecord (at3 y j .ori) x ≡ true
+  pub cur : (j : ℕ) → j < c → isRecord (at3 y j .cur) x ≡ true
+  pub some : (j : ℕ) → j < c → not (eqb (at3 y j .ori) noneWord && eqb (at3 y j .cur) noneWord) ≡ true
+  pub whole : (j : ℕ) → j < c → at3 y j .ori ≡ noneWord → (i : ℕ) → i < g .d → Indexed (k * g .d + i) c y
+
+module _ (w : List ℕ) (g : Geometry) (next listed : ℕ) (hpos : 0 < g .h) (dpos : 0 < g .d) (small : g .e ≤ 4096)
+    (v : valid w g next listed ≡ true)
+    (k c x n : ℕ) (y l : List ℕ) (new : NewRow g k c x y) (more : next ≤ x) (fits : length (dropStripe (g .d) k (entries w g)) + c ≤ g .e)
+    (r : Rewritten g (merged c y (dropStripe (g .d) k (entries w g))) l n) where
+  abbrev kept : List Entry
+  kept = dropStripe (g .d) k (entries w g)
+
+  fit : (j : ℕ) → j < c → Fit g x (merged c y (dropStripe (g .d) k (entries w g))) (at3 y j)
+  fit j o =
+      let st : at3 y j .address / g .d ≡ k = new .segment .stripe j o in
+      record {
+        below = subst (λ (q : ℕ). q < g .s) (sym st) (new .there);
+        ori = new .ori j o;
+        cur = new .cur j o;
+        some = new .some j o;
+        stripe = λ z i h.
+            let d = new .whole j o z i h in
+            record {
+              who = at3 y (d .index);
+              within = merged-new c (d .index) y kept (d .under);
+              is = d .is
+                  ∙ ap (λ (q : ℕ). q * g .d + i) (sym st);
+            };
+      }
+
+  whole-list : Altered w g next listed k c y x
+  whole-list = altered w g next listed k c x y hpos dpos small fits v more (new .segment) fit
+
+  pub replaced-count : n ≡ length kept + c
+  replaced-count = r .1 .1 ∙ length-merged c y kept
+
+  pub replaced-valid : valid (words l) g x n ≡ true
+  replaced-valid = ap₂ (λ (u : List ℕ) (j : ℕ). valid u g x j) (r .1 .0) replaced-count ∙ whole-list .passes
+
+  after-new : (a : ℕ) → said (words l) g a ≡ pickE (merged c y kept) a
+  after-new a =
+      sym (said-entries (words l) g x n hpos dpos small replaced-valid a)
+      ∙ ap (λ (es : List Entry). pickE es a) (ap (λ (u : List ℕ). entries u g) (r .1 .0) ∙ whole-list .stands)
+
+  -- each new entry is said
+  pub replaced-new : (j : ℕ) → j < c → said (words l) g (at3 y j .address) ≡ at3 y j
+  replaced-new j o =
+      after-new (at3 y j .address) ∙ pick-new (g .d) k c y (entries w g) (entries-rising w g next listed hpos dpos small v)
+      (new .segment) j o
+
+  -- the stripe's other addresses are no longer listed
+  pub replaced-gone : (a : ℕ) → a / g .d ≡ k → ((j : ℕ) → j < c → at3 y j .address ≢ a) → said (words l) g a ≡ entry a noneWord noneWord
+  replaced-gone a q f =
+      after-new a ∙ pick-gone (g .d) k c y (entries w g) (entries-rising w g next listed hpos dpos small v) (new .segment) a q f
+
+  -- other stripes are as before
+  pub replaced-kept : (a : ℕ) → a / g .d ≢ k → said (words l) g a ≡ said w g a
+  replaced-kept a q =
+      after-new a ∙ pick-others (g .d) k c y (entries w g) (entries-rising w g next listed hpos dpos small v) (new .segment) a q
+      ∙ said-entries w g next listed hpos dpos small v a

@@ -1,0 +1,7 @@
+pub mod LayoutLaws
+pub mod LeavesLaws
+pub mod HeldBlocks
+pub mod FreshLaws
+pub mod FormatLaws
+pub mod Holding
+pub mod Reaching

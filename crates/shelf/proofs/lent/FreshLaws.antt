@@ -1,0 +1,85 @@
+-- A fresh shelf, as format leaves it, holds what a fresh book says.
+-- Assumes nothing.
+use mathlib.Core.Bool.{false}
+use mathlib.Core.List.{List, []}
+use mathlib.Core.Option.{none}
+use mathlib.Core.Path.{_≡_, refl, sym, ap, _∙_}
+use Prim.Native.Nat.{ℕ, zero, suc, _+_, _*_, _<_}
+use native.Mathlib.Omega.{arith}
+use lib.ListN.{length, getD, replicate, length-replicate}
+use lib.Seq.{ext-getD}
+use Rattle.stripe.specs.Blocks.{block, gen}
+use Rattle.stripe.specs.Places.{place}
+use Rattle.stripe.proofs.Laws.{length-block, getD-block, length-gen, getD-gen, fits, place-lt}
+use Rattle.shelf.specs.Counting.{choose}
+use Rattle.shelf.specs.Members.{InRange, blank, addressOf}
+use Rattle.shelf.specs.State.{freshState, listed, isSome}
+use Rattle.shelf.specs.Book.{freshBook}
+use Rattle.shelf.specs.Words.{words}
+use Rattle.shelf.specs.HashList.{noneWord, Entry, said, valid}
+use Rattle.shelf.specs.Rewriting.{encode}
+use Rattle.shelf.specs.Lent.{recordAt, arrayBlock, arrayLength, logLength, listLength, flagsFrom, roleBlock, formatted, Leaves}
+use Rattle.shelf.specs.declared.record.Geometry.{Geometry}
+use Rattle.shelf.proofs.hashlist.WordLaws.{words-bytes}
+use Rattle.shelf.proofs.lent.FormatLaws.{none-bytes}
+use Rattle.shelf.proofs.hashlist.ListMeaning.{encode-none, none-valid, none-said}
+use Rattle.shelf.proofs.lent.LayoutLaws.{array-is, log-is, role-data, role-p, role-q, by-role}
+use Rattle.shelf.proofs.agreement.ListedLaws.{no-marks}
+use Rattle.shelf.proofs.agreement.Agreement.{fresh-agrees}
+use Rattle.shelf.proofs.lent.Holding.{Holds, leaves-holds}
+
+-- ---- zeros
+
+byte-zeros : (n j : ℕ) → getD {A = ℕ} (replicate n 0) j 0 ≡ 0
+byte-zeros zero j = refl
+byte-zeros (suc n) zero = refl
+byte-zeros (suc n) (suc j) = byte-zeros n j
+
+-- a block of zeros
+block-zeros : (g : Geometry) (n N : ℕ) → n < N → block (g .b) n (replicate (N * g .b) 0) ≡ blank g
+unfolding blank
+block-zeros g n N h =
+    let z : List ℕ = replicate (N * g .b) 0 in
+    let room = fits n N (g .b) (replicate (N * g .b) 0) (length-replicate (N * g .b) 0) h in
+    let len = length-block (g .b) n (replicate (N * g .b) 0) room in
+    ext-getD 0 (block (g .b) n (replicate (N * g .b) 0)) (gen (g .b) (λ _. 0)) (len ∙ sym (length-gen (g .b) (λ _. 0)))
+    (λ j p. let q : j < g .b = omega (arith, len) in
+    getD-block (g .b) n (replicate (N * g .b) 0) j q ∙ byte-zeros (N * g .b) (n * g .b + j) ∙ sym (getD-gen (g .b) (λ _. 0) j q))
+
+-- ---- the list
+
+none-words : (g : Geometry) → words (formatted g .list) ≡ encode g []
+unfolding formatted
+none-words g = words-bytes (replicate (g .h + 4 * g .e) noneWord) ∙ sym (encode-none g)
+
+none-length : (g : Geometry) → length (formatted g .list) ≡ listLength g
+unfolding formatted
+none-length g = ap length (none-bytes (g .h + 4 * g .e)) ∙ length-replicate (4 * (g .h + 4 * g .e)) 255 ∙ omega arith
+
+none-record : recordAt noneWord ≡ none
+unfolding recordAt choose
+none-record = refl
+
+-- ---- the shelf
+
+fresh-leaves : (g : Geometry) → InRange g → Leaves g (freshState g) (formatted g)
+unfolding formatted freshState isSome flagsFrom
+fresh-leaves g Y =
+    record {
+      shelf = λ i. record { geometry = g; mode = 0; next = 0; listed = sym (no-marks g) i; failed = replicate 19 false };
+      array = array-is g (freshState g) (replicate (arrayLength g) 0) (Y .s-least) (length-replicate (arrayLength g) 0)
+          (λ x i hx hi.
+          let blanks : blank g ≡ arrayBlock g (replicate (arrayLength g) 0) x i = sym (block-zeros g (place (g .d) (g .s) x i) ((g .d + 2) * g .s) (place-lt (g .d) (g .s) x i hx hi)) in
+          by-role g (λ j. roleBlock g (freshState g) x j ≡ blank g) (λ j hj. role-data g (freshState g) x j hj) (role-p g (freshState g) x) (role-q g (freshState g) x) i hi ∙ blanks);
+      log = log-is g (freshState g) (replicate (logLength g) 0) (length-replicate (logLength g) 0) (λ r hr. sym (block-zeros g r (g .l) hr));
+      length-of = none-length g;
+      passes = ap (λ (w : List ℕ). valid w g 0 0) (none-words g) ∙ none-valid g 0 (Y .h-least) (Y .e-most);
+      ori = λ x i _ _. ap (λ (e : Entry). recordAt (e .ori)) (none-here x i) ∙ none-record;
+      cur = λ x i _ _. ap (λ (e : Entry). recordAt (e .cur)) (none-here x i) ∙ none-record;
+    }
+  where
+    none-here : (x i : ℕ) → said (words (formatted g .list)) g (addressOf g x i) ≡ record { address = addressOf g x i; ori = noneWord; cur = noneWord }
+    none-here x i = ap (λ (w : List ℕ). said w g (addressOf g x i)) (none-words g) ∙ none-said g (addressOf g x i) (Y .h-least) (Y .e-most)
+
+pub fresh-holds : (g : Geometry) → InRange g → Holds (formatted g) (freshBook g)
+fresh-holds g Y = leaves-holds Y (fresh-agrees g) (formatted g) (fresh-leaves g Y)

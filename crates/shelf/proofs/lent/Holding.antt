@@ -1,0 +1,229 @@
+-- The agreement of what is lent with the book: what holds of record and bytes between any two calls. It holds of a fresh shelf, every answered call
+-- keeps it, and so do failed members' bytes that change.
+-- Assumes nothing.
+use mathlib.Core.Bool.{Bool, true, false, not, _||_}
+use mathlib.Core.List.{List}
+use mathlib.Core.Option.{Option}
+use mathlib.Core.Path.{_≡_, refl, sym, ap, ap₂, _∙_, subst, fun-ext}
+use Prim.Native.Nat.{ℕ, zero, suc, _+_, _-_, _≤_, _<_}
+use native.Mathlib.Decide.{decLt, ℕ-discrete}
+use native.Mathlib.Omega.{arith}
+use lib.Dec.{eqb, ltb, leb}
+use lib.ListN.{length, List·getD-eq-default}
+use borrow.Author.Tests.{ne-eqb, le-ltb, leb-true, eqb-true}
+use Rattle.stripe.specs.Blocks.{block}
+use Rattle.shelf.specs.Counting.{bit, count, any}
+use Rattle.shelf.specs.Members.{InRange, logMember}
+use Rattle.shelf.specs.State.{State, isSome, listed, marksIn}
+use Rattle.shelf.specs.Status.{Call}
+use Rattle.shelf.specs.Calls.{code}
+use Rattle.shelf.specs.Book.{Book, bookCode, bookAfter}
+use Rattle.shelf.specs.Words.{words}
+use Rattle.shelf.specs.HashList.{valid}
+use Rattle.shelf.specs.Lent.{Lent, lent, flag, flagFrom, flagAt, stateOf, arrayLength, logLength, listLength, numberOf, recordOf, flagsOf, arrayOf, logOf, Leaves, Answered}
+use Rattle.shelf.specs.Sequence.{Fed, Changed}
+use Rattle.shelf.specs.declared.record.Geometry.{Geometry}
+use Rattle.shelf.specs.declared.record.Shelf.{Shelf}
+use Rattle.shelf.proofs.general.TestLaws.{and-fine}
+use Rattle.shelf.proofs.general.CountLaws.{none-any}
+use Rattle.shelf.proofs.numbers.InputLaws.{Fine, record-fine, Passed, passed-number}
+use Rattle.shelf.proofs.lent.LayoutLaws.{array-length, array-back, log-length, log-back, role-data, role-p, role-q, flags-length, flag-back}
+use Rattle.shelf.proofs.agreement.ListedLaws.{marksIn-ext}
+use Rattle.shelf.proofs.agreement.Agreement.{Agrees, Alike, alike-agrees}
+use Rattle.shelf.proofs.lent.HeldBlocks.{disk-block, p-block, q-block}
+use Rattle.shelf.proofs.agreement.Steps.{says, keeps, book-accepted, book-refused}
+
+-- What is lent agrees with the book as a state, and passes rows 1 to 3.
+pub record Holds (h : Lent) (b : Book) : Type 0 where
+  pub agrees : Agrees (h .shelf .geometry) (stateOf h) b
+  pub listed-are : h .shelf .listed ≡ marksIn (h .shelf .geometry) (listed (stateOf h .log))
+  pub flags : length (h .shelf .failed) ≡ 19
+  pub array : length (h .array) ≡ arrayLength (h .shelf .geometry)
+  pub log : length (h .log) ≡ logLength (h .shelf .geometry)
+  pub list : length (h .list) ≡ listLength (h .shelf .geometry)
+  pub passes : valid (words (h .list)) (h .shelf .geometry) (h .shelf .next) (h .shelf .listed) ≡ true
+
+-- ---- numbers 1, 2 and 3 are not given
+
+-- no flag from n on: the count is the same
+count-top : (n m : ℕ) (f : ℕ → Bool) → ((i : ℕ) → n ≤ i → f i ≡ false) → count (n + m) f ≡ count n f
+unfolding count bit
+count-top n zero f h = let q : n + 0 ≡ n = omega arith in ap (λ (k : ℕ). count k f) q
+count-top n (suc m) f h =
+    let q : n + suc m ≡ suc (n + m) = omega arith in
+    let e : bit (f (n + m)) ≡ 0 = ap bit (h (n + m) (omega arith)) in
+    ap (λ (k : ℕ). count k f) q ∙ omega (arith, count-top n m f h, e)
+
+module _ (h : Lent) (b : Book) (small : h .shelf .geometry .d ≤ 16) (H : Holds h b) where
+  abbrev r : Shelf
+  r = h .shelf
+
+  abbrev g : Geometry
+  g = h .shelf .geometry
+
+  abbrev A : Agrees (h .shelf .geometry) (stateOf h) b
+  A = H .agrees
+
+  none-listed : eqb (r .listed) 0 ≡ true → marksIn g (listed (stateOf h .log)) ≡ 0
+  none-listed e = sym (H .listed-are) ∙ eqb-true (r .listed) 0 e
+
+  flags-count : count 19 (flagAt r) ≡ count (g .d + 3) (flagAt r)
+  unfolding stateOf
+  flags-count =
+      (let q : 19 ≡ g .d + 3 + (19 - (g .d + 3)) = omega arith in ap (λ (k : ℕ). count k (flagAt r)) q)
+      ∙ count-top (g .d + 3) (19 - (g .d + 3)) (flagAt r) (A .valid .top)
+
+  none-above : any 19 (flagFrom (r .failed) (g .d + 3)) ≡ false
+  unfolding stateOf
+  none-above =
+      none-any 19 (flagFrom (r .failed) (g .d + 3))
+      (λ i _. and-fine (leb (g .d + 3) i) (flagAt r i) (λ t. A .valid .top i (leb-true (g .d + 3) i t)))
+
+  fine : Fine r
+  unfolding stateOf
+  fine =
+      record {
+        modes = le-ltb 2 (r .mode) (A .valid .modes);
+        above = none-above;
+        few = le-ltb 2 (count 19 (flagAt r)) (omega (arith, flags-count, A .near .two));
+        room = le-ltb (g .l) (r .next) (A .valid .room);
+        fits = le-ltb (g .e) (r .listed) (omega (arith, H .listed-are, A .valid .fits));
+        idle = and-fine (eqb (r .listed) 0) (ltb 0 (r .next)) (λ e. le-ltb 0 (r .next) (omega (arith, A .idle (none-listed e) .0)));
+        normal = and-fine (eqb (r .mode) 0) (ltb 0 (r .listed))
+            (λ e. le-ltb 0 (r .listed) (omega (arith, H .listed-are, A .valid .zero (eqb-true (r .mode) 0 e))));
+        transitional = and-fine (eqb (r .mode) 2) (eqb (r .listed) 0)
+            (λ e. ne-eqb (r .listed) 0 (λ z. A .idle (sym (H .listed-are) ∙ z) .1 (eqb-true (r .mode) 2 e)));
+        accelerating = and-fine (eqb (r .mode) 1) (flagAt r (logMember g)) (λ e. A .near .one (eqb-true (r .mode) 1 e));
+      }
+
+-- rows 1 to 3 pass
+pub holds-passed : (h : Lent) (b : Book) → InRange (h .shelf .geometry) → Holds h b → Passed (h .shelf) (length (h .array)) (length (h .log)) (h .list)
+holds-passed h b Y H =
+    record { range = Y; fine = record-fine (h .shelf) (fine h b (Y .d-most) H); array = H .array; log = H .log; list = H .list; valid = H .passes }
+
+-- the number that a call gets is the book's
+pub number-book : (h : Lent) (b : Book) → InRange (h .shelf .geometry) → Holds h b → (c : Call)
+    → numberOf (h .shelf) (length (h .array)) (length (h .log)) (h .list) c ≡ bookCode (h .shelf .geometry) c b
+unfolding stateOf
+number-book h b Y H c =
+    passed-number (h .shelf) (length (h .array)) (length (h .log)) (h .list) (holds-passed h b Y H) c ∙ says Y (H .agrees) c
+
+-- ---- a state that was left behind is read back
+
+pub leaves-is : (g : Geometry) (s : State) (h : Lent) → Leaves g s h → h ≡ lent (recordOf g s) (arrayOf g s) (logOf g s) (h .list)
+leaves-is g s h L = λ i. record { shelf = L .shelf i; array = L .array i; log = L .log i; list = h .list }
+
+flags-back : (f : ℕ → Bool) → ((i : ℕ) → 19 ≤ i → f i ≡ false) → (λ (i : ℕ). flag (flagsOf f) i) ≡ f
+flags-back f top =
+    fun-ext (λ i. elim (decLt i 19) [
+      | yes h ↦ flag-back f i h
+      | no h ↦ List·getD-eq-default (flagsOf f) false (omega (arith, flags-length f)) ∙ sym (top i (omega arith))
+    ])
+
+module _ {g : Geometry} (Y : InRange g) {s : State} {b : Book} (A : Agrees g s b) (l : List ℕ)
+    (oris : (x i : ℕ) → x < g .s → i < g .d → stateOf (lent (recordOf g s) (arrayOf g s) (logOf g s) l) .log .ori x i ≡ s .log .ori x i)
+    (curs : (x i : ℕ) → x < g .s → i < g .d → stateOf (lent (recordOf g s) (arrayOf g s) (logOf g s) l) .log .cur x i ≡ s .log .cur x i) where
+  laid-alike : Alike g s (stateOf (lent (recordOf g s) (arrayOf g s) (logOf g s) l))
+  unfolding stateOf
+  laid-alike =
+      record {
+        disk = λ x i hx hi f.
+            array-back g s x i hx (omega arith) (ap length (role-data g s x i hi) ∙ disk-block A x i hx hi f .0) ∙ role-data g s x i hi;
+        p = λ x hx f. array-back g s x (g .d) hx (omega arith) (ap length (role-p g s x) ∙ p-block A x hx f .0) ∙ role-p g s x;
+        q = λ x hx f. array-back g s x (g .d + 1) hx (omega arith) (ap length (role-q g s x) ∙ q-block A x hx f .0) ∙ role-q g s x;
+        log = λ r hr f e. log-back g s r hr e;
+        next = refl;
+        ori = oris;
+        cur = curs;
+        mode = refl;
+        failed = flags-back (s .failed) (λ i h. A .valid .top i (omega (arith, Y .d-most)));
+      }
+
+-- and holds
+pub leaves-holds : {g : Geometry} → InRange g → {s : State} {b : Book} → Agrees g s b → (h : Lent) → Leaves g s h → Holds h b
+leaves-holds {g} Y {s} {b} A h L =
+    subst (λ (k : Lent). Holds k b) (sym (leaves-is g s h L)) (record {
+      agrees = alike-agrees (laid-alike Y A (h .list) oris curs) A;
+      listed-are = sym (marksIn-ext g (listed (stateOf k .log)) (listed (s .log)) (λ x i hx hi. ap₂ (λ (o c : Option ℕ). isSome o || isSome c) (oris x i hx hi) (curs x i hx hi)));
+      flags = flags-length (s .failed);
+      array = array-length g s;
+      log = log-length g s;
+      list = L .length-of;
+      passes = subst (λ (r : Shelf). valid (words (h .list)) g (r .next) (r .listed) ≡ true) (L .shelf) (L .passes);
+    })
+  where
+    k : Lent
+    k = lent (recordOf g s) (arrayOf g s) (logOf g s) (h .list)
+
+    oris : (x i : ℕ) → x < g .s → i < g .d → stateOf (lent (recordOf g s) (arrayOf g s) (logOf g s) (h .list)) .log .ori x i ≡ s .log .ori x i
+    oris x i hx hi = unfold stateOf in L .ori x i hx hi
+
+    curs : (x i : ℕ) → x < g .s → i < g .d → stateOf (lent (recordOf g s) (arrayOf g s) (logOf g s) (h .list)) .log .cur x i ≡ s .log .cur x i
+    curs x i hx hi = unfold stateOf in L .cur x i hx hi
+
+-- ---- failed members' bytes
+
+module _ (r : Shelf) (a n l a' n' : List ℕ) (C : Changed (r .geometry) (lent r a n l) (lent r a' n' l)) where
+  changed-alike : Alike (r .geometry) (stateOf (lent r a n l)) (stateOf (lent r a' n' l))
+  unfolding stateOf
+  changed-alike =
+      record {
+        disk = λ x i hx hi f. C .array x i hx (omega arith) f;
+        p = λ x hx f. C .array x (r .geometry .d) hx (omega arith) f;
+        q = λ x hx f. C .array x (r .geometry .d + 1) hx (omega arith) f;
+        log = λ k _ f _. ap (block (r .geometry .b) k) (C .log f);
+        next = refl;
+        ori = λ x i _ _. refl;
+        cur = λ x i _ _. refl;
+        mode = refl;
+        failed = refl;
+      }
+
+  same-holds : (b : Book) → Holds (lent r a n l) b → Holds (lent r a' n' l) b
+  unfolding stateOf
+  same-holds b H =
+      record {
+        agrees = alike-agrees changed-alike (H .agrees);
+        listed-are = H .listed-are;
+        flags = H .flags;
+        array = C .array-length ∙ H .array;
+        log = C .log-length ∙ H .log;
+        list = H .list;
+        passes = H .passes;
+      }
+
+pub changed-holds : (h h' : Lent) (b : Book) → Changed (h .shelf .geometry) h h' → Holds h b → Holds h' b
+changed-holds h h' b C H =
+    subst (λ (k : Lent). Holds k b) (sym e)
+    (same-holds (h .shelf) (h .array) (h .log) (h .list) (h' .array) (h' .log) (subst (λ (k : Lent). Changed (h .shelf .geometry) h k) e C) b H)
+  where
+    e : h' ≡ lent (h .shelf) (h' .array) (h' .log) (h .list)
+    e = λ i. record { shelf = C .shelf i; array = h' .array; log = h' .log; list = C .list i }
+
+-- ---- a call
+
+-- the geometry stays
+pub answered-geometry : (h : Lent) (c : Call) (n : ℕ) (h' : Lent) → Answered h c n h' → h' .shelf .geometry ≡ h .shelf .geometry
+answered-geometry h c n h' P =
+    elim (ℕ-discrete n 0) [
+      | yes z ↦ ap (λ (r : Shelf). r .geometry) (P .done z .shelf)
+      | no z ↦ ap (λ (k : Lent). k .shelf .geometry) (P .refused z)
+    ]
+
+module _ (h : Lent) (b : Book) (Y : InRange (h .shelf .geometry)) (H : Holds h b) (c : Call) (n : ℕ) (h' : Lent) (P : Answered h c n h') where
+  -- each call gets the book's number
+  pub answered-number : n ≡ bookCode (h .shelf .geometry) c b
+  answered-number = P .number ∙ number-book h b Y H c
+
+  -- accepted by the book, and so as a state
+  pub answered-code : n ≡ 0 → code (h .shelf .geometry) c (stateOf h) ≡ 0
+  answered-code z = says Y (H .agrees) c ∙ sym answered-number ∙ z
+
+  pub answered-holds : Fed c → Holds h' (bookAfter (h .shelf .geometry) c b)
+  answered-holds fed =
+      elim (ℕ-discrete n 0) [
+        | yes z ↦ subst (λ (k : Book). Holds h' k) (sym (book-accepted (h .shelf .geometry) c b (sym answered-number ∙ z)))
+            (leaves-holds Y (keeps Y c fed (H .agrees) (answered-code z)) h' (P .done z))
+        | no z ↦ subst (λ (k : Book). Holds h' k) (sym (book-refused (h .shelf .geometry) c b (λ e. z (answered-number ∙ e))))
+            (subst (λ (k : Lent). Holds k b) (sym (P .refused z)) H)
+      ]

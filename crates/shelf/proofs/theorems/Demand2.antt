@@ -1,0 +1,53 @@
+-- The customer's second demand. On a shelf reached from a fresh one, in every stripe not awaiting resynchronisation, the stored P and Q, each where
+-- its disk is sound, equal those of Anvin's published RAID-6 mathematics for the blocks last written there (`stored-parity`); and up to two missing
+-- blocks of a stripe that obeys it are worked back exactly (`recovered-stripe`, of the stripe crate).
+-- Assumes nothing.
+use mathlib.Core.Bool.{false}
+use mathlib.Core.Path.{_≡_, _∙_, subst}
+use Prim.Native.Nat.{ℕ, _<_}
+use Rattle.shelf.specs.Members.{roleP, roleQ, memberAt, blockP, blockQ}
+use Rattle.shelf.specs.State.{State, stale}
+use Rattle.shelf.specs.Book.{Book}
+use Rattle.shelf.specs.Lent.{Lent, flagAt, stateOf, arrayBlock, badMeasures}
+use Rattle.shelf.specs.Sequence.{Reached}
+use Rattle.shelf.specs.declared.record.Geometry.{Geometry}
+use Rattle.shelf.proofs.general.CountLaws.{any-none}
+use Rattle.shelf.proofs.agreement.RowParity.{blockP-ext, blockQ-ext}
+use Rattle.shelf.proofs.agreement.ListedLaws.{unlisted}
+use Rattle.shelf.proofs.agreement.Agreement.{Agrees}
+use Rattle.shelf.proofs.numbers.InputLaws.{in-range}
+use Rattle.shelf.proofs.lent.Holding.{Holds}
+use Rattle.shelf.proofs.lent.Reaching.{stands}
+pub use Rattle.stripe.proofs.Laws.{recovered-stripe}
+
+-- ---- on states: sound parity of a stripe that is not stale is parity of what the book holds
+
+module _ {g : Geometry} {s : State} {b : Book} (A : Agrees g s b) (x : ℕ) (hx : x < g .s) (rest : stale g (b .state .marks) x ≡ false) where
+  held-orig : (i : ℕ) → i < g .d → A .near .orig x i ≡ b .held x i
+  held-orig i hi =
+      A .near .noted .plain x i hx hi
+      (unlisted (s .log) x i (A .near .marks x i hx hi ∙ any-none (g .d) (b .state .marks x) rest i hi) .1)
+
+  stored-P : s .failed (memberAt g x (roleP g)) ≡ false → s .p x ≡ blockP g (b .held x)
+  stored-P f = A .near .p x hx f ∙ blockP-ext g (A .near .orig x) (b .held x) held-orig
+
+  stored-Q : s .failed (memberAt g x (roleQ g)) ≡ false → s .q x ≡ blockQ g (b .held x)
+  stored-Q f = A .near .q x hx f ∙ blockQ-ext g (A .near .orig x) (b .held x) held-orig
+
+-- ---- on what is lent
+
+-- the parity that stripe x has in the array, where its member is sound
+pub record Parity (g : Geometry) (h : Lent) (b : Book) (x : ℕ) : Type 0 where
+  pub p : flagAt (h .shelf) (memberAt g x (roleP g)) ≡ false → arrayBlock g (h .array) x (roleP g) ≡ blockP g (b .held x)
+  pub q : flagAt (h .shelf) (memberAt g x (roleQ g)) ≡ false → arrayBlock g (h .array) x (roleQ g) ≡ blockQ g (b .held x)
+
+parity-here : (h : Lent) (b : Book) → Holds h b → (x : ℕ) → x < h .shelf .geometry .s → stale (h .shelf .geometry) (b .state .marks) x ≡ false
+    → Parity (h .shelf .geometry) h b x
+unfolding stateOf
+parity-here h b H x hx rest = record { p = stored-P (H .agrees) x hx rest; q = stored-Q (H .agrees) x hx rest }
+
+pub stored-parity : (g : Geometry) → badMeasures g ≡ false → (h : Lent) (b : Book) → Reached g h b
+    → (x : ℕ) → x < g .s → stale g (b .state .marks) x ≡ false → Parity g h b x
+stored-parity g fine h b R =
+    let S = stands (in-range g fine) R in
+    subst (λ (k : Geometry). (x : ℕ) → x < k .s → stale k (b .state .marks) x ≡ false → Parity k h b x) (S .geometry) (parity-here h b (S .holds))
