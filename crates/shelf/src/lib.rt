@@ -9,20 +9,36 @@
 mod alter;
 mod entries;
 mod list;
+mod read;
 pub mod record;
 mod stale;
 mod status;
 mod words;
 
+ghost use mathlib.Core.Logic.{_≢_};
 ghost use mathlib.Core.Path.{_≡_};
 ghost use lib.ListN.{length, replicate};
-ghost use Rattle.shelf.specs.Status.{start, fail, newLog};
-ghost use Rattle.shelf.specs.Lent.{lent, formatCode, formatLeaves, freshRecord, Answered};
+ghost use Rattle.stripe.specs.Places.{place, parityMade};
+ghost use Rattle.shelf.specs.Members.{InRange};
+ghost use Rattle.shelf.specs.Status.{start, fail, read, resync, newLog, fullResync};
+ghost use Rattle.shelf.specs.Lent.{lent, formatCode, formatLeaves, freshRecord, arrayLength, stateOf, readBuffer, toldStripe, Answered};
+ghost use Rattle.shelf.specs.Words.{words};
+ghost use Rattle.shelf.specs.HashList.{Measures, Passing, entries};
+ghost use Rattle.shelf.specs.Rewriting.{Rewritten, dropStripe};
+ghost use Prim.Native.Nat.{_<_};
 
 // What a call hands back: its number, 0 where it was accepted, and the record after it.
 #[repr(C)]
 pub struct Answer {
     pub code: usize,
+    pub shelf: record::Shelf,
+}
+
+// What resync hands back: its number, the stripe that it made (s where none was stale or the call is refused), and the record after it.
+#[repr(C)]
+pub struct Resynced {
+    pub code: usize,
+    pub stripe: usize,
     pub shelf: record::Shelf,
 }
 
@@ -92,6 +108,47 @@ pub extern "C" fn shelf_fail(
     }
 }
 
+// Reads count blocks from an address on into out, which has as many bytes. Answers 0; or the first of 1, 2, 3, 4, 5, 14 that applies, and
+// then out stays as it was. Stores no byte of the shelf.
+#[no_mangle]
+pub extern "C" fn shelf_read(
+    shelf: record::Shelf,
+    address: usize,
+    count: usize,
+    out: &mut [u8],
+    array: &[u8],
+    log: &[u8],
+    list: &[u8],
+) -> Answer
+    ensures { λ a. ⌜ Answered (lent shelf (now (array .entry)) (now (log .entry)) (now (list .entry))) (read address count (length (now (out .entry)))) (a .code) (lent (a .shelf) (now (array .entry)) (now (log .entry)) (now (list .entry))) × ((a .code ≡ 0 → now (out .exit) ≡ readBuffer (shelf .geometry) (stateOf (lent shelf (now (array .entry)) (now (log .entry)) (now (list .entry)))) address count) × (a .code ≢ 0 → now (out .exit) ≡ now (out .entry))) ⌝ }
+{
+    let g = shelf.geometry;
+    let code = status::read_code(
+        shelf,
+        address,
+        count,
+        out.len(),
+        array.len(),
+        log.len(),
+        list,
+    );
+    if code != 0 {
+        return Answer { code, shelf };
+    }
+    let mut work = [0u8; 4096];
+    read::read_blocks(
+        shelf,
+        address,
+        count,
+        out,
+        array,
+        log,
+        list,
+        &mut work[..g.b],
+    );
+    Answer { code: 0, shelf }
+}
+
 // Takes a new log into use: clears the log's flag. Answers 0; or the first of 1, 2, 3, 12, 13 that applies. Stores no byte.
 #[no_mangle]
 pub extern "C" fn shelf_new_log(
@@ -111,6 +168,79 @@ pub extern "C" fn shelf_new_log(
         code: 0,
         shelf: shelf.renew(g.d + 2),
     }
+}
+
+// Goes to mode 2, makes P and Q of the lowest stale stripe, drops its entries, and tells the stripe. Where none is stale it stores
+// nothing, goes to mode 0 and tells s. Answers 0; or the first of 1, 2, 3, 7, 8 that applies, and then stores nothing and tells s.
+#[no_mangle]
+pub extern "C" fn shelf_resync(
+    shelf: record::Shelf,
+    array: &mut [u8],
+    log: &[u8],
+    list: &mut [u8],
+) -> Resynced
+    ensures { λ a. ⌜ Answered (lent shelf (now (array .entry)) (now (log .entry)) (now (list .entry))) resync (a .code) (lent (a .shelf) (now (array .exit)) (now (log .entry)) (now (list .exit))) × (a .stripe ≡ toldStripe (lent shelf (now (array .entry)) (now (log .entry)) (now (list .entry))) (a .code)) ⌝ }
+{
+    let g = shelf.geometry;
+    let s = g.s;
+    let code = status::resync_code(shelf, array.len(), log.len(), list);
+    if code != 0 {
+        return Resynced {
+            code,
+            stripe: s,
+            shelf,
+        };
+    }
+    let t = stale::lowest_stale(list, g);
+    if t >= s {
+        return Resynced {
+            code: 0,
+            stripe: t,
+            shelf: shelf.in_mode(0),
+        };
+    }
+    let n = make_stripe(array, list, g, t);
+    let entered = shelf.in_mode(2);
+    Resynced {
+        code: 0,
+        stripe: t,
+        shelf: entered.drop_to(n),
+    }
+}
+
+// Makes P and Q of every stripe, empties the list and goes to mode 0. Answers 0; or the first of 1, 2, 8 that applies, and then stores
+// nothing.
+#[no_mangle]
+pub extern "C" fn shelf_full_resync(
+    shelf: record::Shelf,
+    array: &mut [u8],
+    log: &[u8],
+    list: &mut [u8],
+) -> Answer
+    ensures { λ a. ⌜ Answered (lent shelf (now (array .entry)) (now (log .entry)) (now (list .entry))) fullResync (a .code) (lent (a .shelf) (now (array .exit)) (now (log .entry)) (now (list .exit))) ⌝ }
+{
+    let g = shelf.geometry;
+    let code = status::full_resync_code(shelf, array.len(), log.len(), list);
+    if code != 0 {
+        return Answer { code, shelf };
+    }
+    stripe::parity::make_all_parity(array, g.d, g.s, g.b);
+    fill(list, 255);
+    let entered = shelf.in_mode(0);
+    Answer {
+        code: 0,
+        shelf: entered.drop_to(0),
+    }
+}
+
+// Makes P and Q of stripe t of the data that stand in the array, and drops its entries from a list that passes number 3. Answers how
+// many entries are left.
+fn make_stripe(array: &mut [u8], list: &mut [u8], g: record::Geometry, t: usize) -> usize
+    requires { ⌜ InRange g × ((t < g .s) × ((length (now array) ≡ arrayLength g) × (Measures g (now list) × Passing (words (now list)) g))) ⌝ }
+    ensures { λ n. ⌜ (now (array .exit) ≡ parityMade (place (g .d) (g .s) t) (g .d) (g .b) (now (array .entry))) × Rewritten g (dropStripe (g .d) t (entries (words (now (list .entry))) g)) (now (list .exit)) n ⌝ }
+{
+    stripe::parity::make_parity(array, g.d, g.s, t, g.b);
+    alter::drop_stripe(list, g, t)
 }
 
 // The record of a fresh shelf.

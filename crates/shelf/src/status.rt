@@ -2,13 +2,15 @@
 // rows in `specs/Status.antt`, `specs/Lent.antt` or, for new log, `specs/Records.antt` says.
 use super::list;
 use super::record;
+use super::stale;
 ghost use mathlib.Core.Bool.{_&&_, _||_, true};
 ghost use mathlib.Core.Path.{_≡_};
-ghost use Prim.Native.Nat.{_≤_};
+ghost use Prim.Native.Nat.{_+_, _*_, _≤_, _<_};
 ghost use Rattle.shelf.specs.Members.{InRange};
-ghost use Rattle.shelf.specs.Status.{codeOf, start, fail, newLog, row, logSound};
-ghost use Rattle.shelf.specs.Lent.{flagAt, outside, badMeasures, badRecord, badLengths, inputRows, numberOf, formatCode};
+ghost use Rattle.shelf.specs.Status.{codeOf, start, fail, read, resync, newLog, fullResync, row, logSound, badAddress, readWithheld, withheld};
+ghost use Rattle.shelf.specs.Lent.{flagAt, listedBy, outside, badMeasures, badRecord, badLengths, inputRows, numberOf, formatCode};
 ghost use Rattle.shelf.specs.Records.{unmarked, newLogRows};
+ghost use Rattle.shelf.specs.Reading.{ListReady};
 
 // What format answers, for buffers of these lengths.
 pub fn format_code(g: record::Geometry, array: usize, log: usize, list: usize) -> usize
@@ -45,6 +47,25 @@ pub fn fail_code(shelf: record::Shelf, j: usize, array: usize, log: usize, list:
     fail_rows(shelf, j)
 }
 
+// What a read of n blocks from address a on into len bytes answers, for an array and a log of these lengths.
+pub fn read_code(
+    shelf: record::Shelf,
+    a: usize,
+    n: usize,
+    len: usize,
+    array: usize,
+    log: usize,
+    list: &[u8],
+) -> usize
+    ensures { λ c. ⌜ c ≡ numberOf shelf array log (now (list .entry)) (read a n len) ⌝ }
+{
+    let code = input_code(shelf, array, log, list);
+    if code != 0 {
+        return code;
+    }
+    read_rows(shelf, a, n, len, list)
+}
+
 // What new log answers, for an array and a log of these lengths.
 pub fn new_log_code(shelf: record::Shelf, array: usize, log: usize, list: &[u8]) -> usize
     ensures { λ n. ⌜ n ≡ numberOf shelf array log (now (list .entry)) newLog ⌝ }
@@ -54,6 +75,34 @@ pub fn new_log_code(shelf: record::Shelf, array: usize, log: usize, list: &[u8])
         return code;
     }
     new_log_rows(shelf)
+}
+
+// What resync answers, for an array and a log of these lengths.
+pub fn resync_code(shelf: record::Shelf, array: usize, log: usize, list: &[u8]) -> usize
+    ensures { λ n. ⌜ n ≡ numberOf shelf array log (now (list .entry)) resync ⌝ }
+{
+    let code = input_code(shelf, array, log, list);
+    if code != 0 {
+        return code;
+    }
+    resync_rows(shelf)
+}
+
+// What full resync answers, for an array and a log of these lengths. The list may be lost: of its bytes only the number is looked at.
+pub fn full_resync_code(shelf: record::Shelf, array: usize, log: usize, list: &[u8]) -> usize
+    ensures { λ n. ⌜ n ≡ numberOf shelf array log (now (list .entry)) fullResync ⌝ }
+{
+    let g = shelf.geometry;
+    if bad_measures(g) {
+        return 1;
+    }
+    if bad_record(shelf) {
+        return 1;
+    }
+    if bad_lengths(g, array, log, list.len()) {
+        return 2;
+    }
+    full_resync_rows(shelf)
 }
 
 // Rows 1 to 3, for an array and a log of these lengths: the number of the first that applies, or 0.
@@ -112,6 +161,73 @@ fn fail_rows(shelf: record::Shelf, j: usize) -> usize
     0
 }
 
+// The rows of read: 4, 5, 14. Row 14 is looked for only where the log has failed.
+fn read_rows(shelf: record::Shelf, a: usize, n: usize, len: usize, list: &[u8]) -> usize
+    requires { ⌜ ListReady shelf (now list) ⌝ }
+    ensures { λ c. ⌜ c ≡ codeOf (shelf .geometry) (flagAt shelf) (shelf .mode) (listedBy (shelf .geometry) (now (list .entry))) (read a n len) ⌝ }
+{
+    let g = shelf.geometry;
+    if bad_address(g, a, n) {
+        return 4;
+    }
+    if len != n * g.b {
+        return 5;
+    }
+    if !shelf.has_failed(g.d + 2) {
+        return 0;
+    }
+    if read_withheld(shelf, a, n, list) {
+        return 14;
+    }
+    0
+}
+
+// Row 4: n is 0, or a + n is above d * s.
+fn bad_address(g: record::Geometry, a: usize, n: usize) -> bool
+    requires { ⌜ InRange g ⌝ }
+    ensures { λ r. ⌜ r ≡ badAddress g a n ⌝ }
+{
+    let all = g.d * g.s;
+    if n == 0 {
+        return true;
+    }
+    if all < n {
+        return true;
+    }
+    all - n < a
+}
+
+// Row 14 of a read of n blocks from address a on.
+fn read_withheld(shelf: record::Shelf, a: usize, n: usize, list: &[u8]) -> bool
+    requires { ⌜ ListReady shelf (now list) × (a + n ≤ shelf .geometry .d * shelf .geometry .s) ⌝ }
+    ensures { λ r. ⌜ r ≡ readWithheld (shelf .geometry) (flagAt shelf) (listedBy (shelf .geometry) (now (list .entry))) a n ⌝ }
+{
+    let g = shelf.geometry;
+    let mut j = n;
+    while j > 0 {
+        j -= 1;
+        if withheld(shelf, (a + j) / g.d, (a + j) % g.d, list) {
+            return true;
+        }
+    }
+    false
+}
+
+// Row 14, of the block with data index i of stripe x.
+fn withheld(shelf: record::Shelf, x: usize, i: usize, list: &[u8]) -> bool
+    requires { ⌜ ListReady shelf (now list) × ((x < shelf .geometry .s) × (i < shelf .geometry .d)) ⌝ }
+    ensures { λ r. ⌜ r ≡ withheld (shelf .geometry) (flagAt shelf) (listedBy (shelf .geometry) (now (list .entry))) x i ⌝ }
+{
+    let g = shelf.geometry;
+    if !shelf.has_failed(g.d + 2) {
+        return false;
+    }
+    if !shelf.has_failed(stripe::places::member(g.d, x, i)) {
+        return false;
+    }
+    stale::is_stale(list, g, x)
+}
+
 // The rows of new log: 12, 13.
 fn new_log_rows(shelf: record::Shelf) -> usize
     requires { ⌜ shelf .geometry .d ≤ 16 ⌝ }
@@ -123,6 +239,29 @@ fn new_log_rows(shelf: record::Shelf) -> usize
     }
     if 0 < shelf.listed {
         return 13;
+    }
+    0
+}
+
+// The rows of resync: 7, 8.
+fn resync_rows(shelf: record::Shelf) -> usize
+    requires { ⌜ shelf .geometry .d ≤ 16 ⌝ }
+    ensures { λ n. ⌜ n ≡ codeOf (shelf .geometry) (flagAt shelf) (shelf .mode) unmarked resync ⌝ }
+{
+    if shelf.mode == 0 {
+        return 7;
+    }
+    full_resync_rows(shelf)
+}
+
+// The row of full resync: 8.
+fn full_resync_rows(shelf: record::Shelf) -> usize
+    requires { ⌜ shelf .geometry .d ≤ 16 ⌝ }
+    ensures { λ n. ⌜ n ≡ codeOf (shelf .geometry) (flagAt shelf) (shelf .mode) unmarked fullResync ⌝ }
+{
+    let g = shelf.geometry;
+    if shelf.any_failed(0, g.d + 2) {
+        return 8;
     }
     0
 }

@@ -54,6 +54,10 @@ either-way false = inr refl
 pub not-so : true ≡ false → ⊥
 not-so e = clash refl e
 
+pub not-on : (t : Bool) → not t ≡ true → t ≡ false
+not-on true e = sym e
+not-on false e = refl
+
 pub not-off : (t : Bool) → not t ≡ false → t ≡ true
 not-off true e = refl
 not-off false e = sym e

@@ -62,7 +62,7 @@ none-record = refl
 
 -- ---- the shelf
 
-fresh-leaves : (g : Geometry) → InRange g → Leaves g (freshState g) (formatted g)
+pub fresh-leaves : (g : Geometry) → InRange g → Leaves g (freshState g) (formatted g)
 unfolding formatted freshState isSome flagsFrom
 fresh-leaves g Y =
     record {

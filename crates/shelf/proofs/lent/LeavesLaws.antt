@@ -55,7 +55,7 @@ module _ (r : Shelf) (a n l : List ℕ) (P : Passed r (length a) (length n) l) w
       }
 
 -- flags by their members
-same-flags : (fs : List Bool) → length fs ≡ 19 → fs ≡ flagsOf (flag fs)
+pub same-flags : (fs : List Bool) → length fs ≡ 19 → fs ≡ flagsOf (flag fs)
 same-flags fs e = flags-are (flag fs) fs e (λ i _. refl)
 
 set-flags : (fs : List Bool) (j : ℕ) (t : Bool) → length fs ≡ 19 → j < 19 → set fs j t ≡ flagsOf (setAt j t (flag fs))

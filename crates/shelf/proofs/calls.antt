@@ -1,0 +1,4 @@
+pub mod MadeLaws
+pub mod ResyncLaws
+pub mod ServedLaws
+pub mod GivenLaws

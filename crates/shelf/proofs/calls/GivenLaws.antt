@@ -1,0 +1,263 @@
+-- A block as a read gives it, out of array and log as lent: on a sound disk, from the log, worked back; and the buffer that is filled with them.
+-- Assumes nothing.
+use mathlib.Core.Bool.{Bool, true, false, _||_}
+use mathlib.Core.List.{List, _++_}
+use mathlib.Core.Logic.{_≢_}
+use mathlib.Core.Option.{Option}
+use mathlib.Core.Path.{_≡_, refl, sym, ap, _∙_, subst}
+use Prim.Native.Nat.{ℕ, _+_, _*_, _≤_, _<_}
+use native.Mathlib.Nat.{mul-le-mul-right}
+use native.Mathlib.Decide.{ℕ-discrete}
+use native.Mathlib.Omega.{arith}
+use lib.Dec.{eqb, ltb}
+use lib.ListN.{length, getD}
+use borrow.Author.Tests.{lt-ltb, le-ltb, eq-eqb, ne-eqb, ltb-true, ltb-false, eqb-true}
+use Rattle.stripe.specs.Blocks.{gen, block, put, byteOf}
+use Rattle.stripe.specs.Parity.{solved}
+use Rattle.stripe.specs.Places.{place, numbered, columnAt, byColumn, Tabled}
+use Rattle.stripe.specs.Steps.{Gathers}
+use Rattle.stripe.proofs.Laws.{place-lt, array-byte, log-byte, solved-ignores, fits, length-block, getD-block, block-whole, block-put-same, block-put-other, length-put, length-gen, gen-ext}
+use Rattle.shelf.specs.Counting.{choose}
+use Rattle.shelf.specs.Members.{memberAt, roleP, addressOf, column, otherMissing, workedBack}
+use Rattle.shelf.specs.State.{State}
+use Rattle.shelf.specs.Calls.{orElse, original, missing, blockAt, served}
+use Rattle.shelf.specs.Words.{words}
+use Rattle.shelf.specs.HashList.{noneWord, said, isRecord}
+use Rattle.shelf.specs.Lent.{lent, recordAt, stateOf, oriBy, flagAt, arrayBlock, readBuffer}
+use Rattle.shelf.specs.Reading.{Ready, latest, originalPlace, missingBy, lostBlock, givenBlock}
+use Rattle.shelf.specs.declared.record.Geometry.{Geometry}
+use Rattle.shelf.specs.declared.record.Shelf.{Shelf}
+use Rattle.shelf.proofs.general.TestLaws.{cases, clash, choose-true, choose-false}
+use Rattle.shelf.proofs.hashlist.ListMeaning.{said-ori, said-cur}
+use Rattle.shelf.proofs.lent.LayoutLaws.{by-role, blocksOf-back}
+use Rattle.shelf.proofs.calls.ServedLaws.{record-some, record-none, number-log, number-array}
+
+-- ---- words that are records
+
+pub record-low : (v next : ℕ) → isRecord v next ≡ true → v ≢ noneWord → v < next
+unfolding isRecord
+record-low v next t n = ltb-true v next (sym (ap (λ (z : Bool). z || ltb v next) (ne-eqb v noneWord n)) ∙ t)
+
+-- Cur, else Ori, else something else
+module _ (c o : ℕ) (f : ℕ → List ℕ) (z : List ℕ) (v : ℕ) (e : v ≡ choose (eqb c noneWord) o c) where
+  pub cur-or-ori : v ≢ noneWord → f v ≡ orElse (recordAt c) f (orElse (recordAt o) f z)
+  cur-or-ori n =
+      cases (eqb c noneWord)
+      (λ t. let is : v ≡ o = e ∙ choose-true (eqb c noneWord) o c t in
+      ap f is ∙ sym (ap (λ (k : Option ℕ). orElse k f (orElse (recordAt o) f z)) (record-none c (eqb-true c noneWord t))
+      ∙ ap (λ (k : Option ℕ). orElse k f z) (record-some o (λ q. n (is ∙ q)))))
+      (λ t. let is : v ≡ c = e ∙ choose-false (eqb c noneWord) o c t in
+      ap f is ∙ sym (ap (λ (k : Option ℕ). orElse k f (orElse (recordAt o) f z)) (record-some c (λ q. n (is ∙ q)))))
+
+  pub no-record : v ≡ noneWord → z ≡ orElse (recordAt c) f (orElse (recordAt o) f z)
+  no-record n =
+      cases (eqb c noneWord)
+      (λ t. let is : v ≡ o = e ∙ choose-true (eqb c noneWord) o c t in
+      sym (ap (λ (k : Option ℕ). orElse k f (orElse (recordAt o) f z)) (record-none c (eqb-true c noneWord t))
+      ∙ ap (λ (k : Option ℕ). orElse k f z) (record-none o (sym is ∙ n))))
+      (λ t. let is : v ≡ c = e ∙ choose-false (eqb c noneWord) o c t in clash (eq-eqb c noneWord (sym is ∙ n)) t)
+
+  pub low-record : (next : ℕ) → isRecord c next ≡ true → isRecord o next ≡ true → v ≢ noneWord → v < next
+  low-record next p q n =
+      cases (eqb c noneWord)
+      (λ t. record-low v next (subst (λ (k : ℕ). isRecord k next ≡ true) (sym (e ∙ choose-true (eqb c noneWord) o c t)) q) n)
+      (λ t. record-low v next (subst (λ (k : ℕ). isRecord k next ≡ true) (sym (e ∙ choose-false (eqb c noneWord) o c t)) p) n)
+
+-- ---- one stripe of what is lent
+
+module _ (r : Shelf) (a n l : List ℕ) (R : Ready (lent r a n l)) (x : ℕ) (hx : x < r .geometry .s) where
+  -- a block has an Ori, or its original is the array's
+  ori-or-array : {P : Type 0} (i : ℕ) → (i < r .geometry .d → said (words l) (r .geometry) (addressOf (r .geometry) x i) .ori ≢ noneWord → P)
+      → ((i < r .geometry .d → said (words l) (r .geometry) (addressOf (r .geometry) x i) .ori ≡ noneWord) → P) → P
+  ori-or-array i have not-have =
+      elim (ℕ-discrete (said (words l) (r .geometry) (addressOf (r .geometry) x i) .ori) noneWord) [
+        | yes e ↦ not-have (λ _. e)
+        | no u ↦ cases (ltb i (r .geometry .d)) (λ t. have (ltb-true i (r .geometry .d) t) u)
+            (λ t. let high = ltb-false i (r .geometry .d) t in not-have (λ h. absurd (omega (arith, h, high))))
+      ]
+
+  ori-low : (i : ℕ) → said (words l) (r .geometry) (addressOf (r .geometry) x i) .ori ≢ noneWord
+      → said (words l) (r .geometry) (addressOf (r .geometry) x i) .ori < r .geometry .l
+  ori-low i u =
+      let Y = R .listing .range in
+      let low : said (words l) (r .geometry) (addressOf (r .geometry) x i) .ori < r .next =
+      record-low (said (words l) (r .geometry) (addressOf (r .geometry) x i) .ori) (r .next)
+      (said-ori (words l) (r .geometry) (r .next) (r .listed) (omega (arith, Y .h-least)) (omega (arith, Y .d-least)) (Y .e-most) (R .listing .valid) (addressOf (r .geometry) x i)) u in
+      omega (arith, low, R .listing .room)
+
+  -- the block numbers lie within array and log
+  number-low : (i : ℕ) → i < r .geometry .d + 2 → originalPlace (r .geometry) l x i < (r .geometry .d + 2) * r .geometry .s + r .geometry .l
+  number-low i h =
+      ori-or-array i
+      (λ hi u. subst (λ (k : ℕ). k < (r .geometry .d + 2) * r .geometry .s + r .geometry .l)
+      (number-log (r .geometry) l x i hi (said (words l) (r .geometry) (addressOf (r .geometry) x i) .ori) refl u) (let low = ori-low i u in omega (arith, low)))
+      (λ e. subst (λ (k : ℕ). k < (r .geometry .d + 2) * r .geometry .s + r .geometry .l) (number-array (r .geometry) l x i e)
+      (let low = place-lt (r .geometry .d) (r .geometry .s) x i hx h in omega (arith, low)))
+
+  pub gathers : (ns work : List ℕ) → r .geometry .d + 2 ≤ length ns → Tabled (r .geometry .d + 2) (originalPlace (r .geometry) l x) ns
+      → length work ≡ r .geometry .b → Gathers (r .geometry .d) ((r .geometry .d + 2) * r .geometry .s) (r .geometry .b) a n ns work
+  gathers ns work long tab len =
+      record {
+        data-most = R .listing .range .d-most;
+        whole = R .array;
+        held = record {
+          long = long;
+          within = λ i h.
+              let low : getD ns i 0 < (r .geometry .d + 2) * r .geometry .s + r .geometry .l =
+              subst (λ (k : ℕ). k < (r .geometry .d + 2) * r .geometry .s + r .geometry .l) (sym (tab i h)) (number-low i h) in
+              let m = mul-le-mul-right (r .geometry .b) low in
+              omega (arith, m, R .array, R .log);
+        };
+        working = len;
+      }
+
+  -- an original that is not in the log is the array's block
+  original-array : (i : ℕ) → i < r .geometry .d + 2 → (i < r .geometry .d → said (words l) (r .geometry) (addressOf (r .geometry) x i) .ori ≡ noneWord)
+      → original (r .geometry) (stateOf (lent r a n l)) x i ≡ arrayBlock (r .geometry) a x i
+  unfolding stateOf
+  original-array =
+      let g = r .geometry in
+      let s = stateOf (lent r a n l) in
+      by-role g (λ i. (i < g .d → said (words l) g (addressOf g x i) .ori ≡ noneWord) → original g s x i ≡ arrayBlock g a x i)
+      (λ i h e. choose-true (ltb i (g .d)) (orElse (oriBy g l x i) (s .log .value) (s .disk x i)) (choose (eqb i (roleP g)) (s .p x) (s .q x)) (lt-ltb i (g .d) h)
+      ∙ ap (λ (k : Option ℕ). orElse k (s .log .value) (s .disk x i)) (record-none (said (words l) g (addressOf g x i) .ori) (e h)))
+      (λ e. choose-false (ltb (g .d) (g .d)) (orElse (oriBy g l x (g .d)) (s .log .value) (s .disk x (g .d))) (choose (eqb (g .d) (roleP g)) (s .p x) (s .q x)) (le-ltb (g .d) (g .d) (omega arith))
+      ∙ choose-true (eqb (g .d) (roleP g)) (s .p x) (s .q x) (eq-eqb (g .d) (g .d) refl))
+      (λ e. choose-false (ltb (g .d + 1) (g .d)) (orElse (oriBy g l x (g .d + 1)) (s .log .value) (s .disk x (g .d + 1))) (choose (eqb (g .d + 1) (roleP g)) (s .p x) (s .q x)) (le-ltb (g .d + 1) (g .d) (omega arith))
+      ∙ choose-false (eqb (g .d + 1) (roleP g)) (s .p x) (s .q x) (ne-eqb (g .d + 1) (g .d) (λ z. omega arith)))
+
+  original-log : (i : ℕ) → i < r .geometry .d → said (words l) (r .geometry) (addressOf (r .geometry) x i) .ori ≢ noneWord
+      → original (r .geometry) (stateOf (lent r a n l)) x i ≡ block (r .geometry .b) (said (words l) (r .geometry) (addressOf (r .geometry) x i) .ori) n
+  unfolding stateOf
+  original-log i h u =
+      let g = r .geometry in
+      let s = stateOf (lent r a n l) in
+      choose-true (ltb i (g .d)) (orElse (oriBy g l x i) (s .log .value) (s .disk x i)) (choose (eqb i (roleP g)) (s .p x) (s .q x)) (lt-ltb i (g .d) h)
+      ∙ ap (λ (k : Option ℕ). orElse k (s .log .value) (s .disk x i)) (record-some (said (words l) g (addressOf g x i) .ori) u)
+
+  -- the table's blocks are the originals
+  original-byte : (i j : ℕ) → i < r .geometry .d + 2 → j < r .geometry .b
+      → byteOf (r .geometry .b) (a ++ n) (originalPlace (r .geometry) l x i) j ≡ getD (original (r .geometry) (stateOf (lent r a n l)) x i) j 0
+  unfolding byteOf
+  original-byte i j h hj =
+      let g = r .geometry in
+      ori-or-array i
+      (λ hi u.
+      let v : ℕ = said (words l) g (addressOf g x i) .ori in
+      ap (λ (k : ℕ). byteOf (g .b) (a ++ n) k j) (sym (number-log g l x i hi v refl u))
+      ∙ log-byte (g .b) ((g .d + 2) * g .s) a n (R .array) v j
+      ∙ sym (getD-block (g .b) v n j hj)
+      ∙ ap (λ (k : List ℕ). getD k j 0) (sym (original-log i hi u)))
+      (λ e.
+      ap (λ (k : ℕ). byteOf (g .b) (a ++ n) k j) (sym (number-array g l x i e))
+      ∙ array-byte (g .b) ((g .d + 2) * g .s) a n (R .array) (place (g .d) (g .s) x i) j (place-lt (g .d) (g .s) x i hx h) hj
+      ∙ sym (getD-block (g .b) (place (g .d) (g .s) x i) a j hj)
+      ∙ ap (λ (k : List ℕ). getD k j 0) (sym (original-array i h e)))
+
+  pub worked : (i y : ℕ) (ns work : List ℕ) → i < r .geometry .d → Tabled (r .geometry .d + 2) (originalPlace (r .geometry) l x) ns
+      → y ≡ otherMissing (r .geometry) (missingBy r l x) i
+      → work ≡ gen (r .geometry .b) (byColumn (solved (r .geometry .d) i y) (numbered ns) (r .geometry .b) (a ++ n)) → work ≡ lostBlock (lent r a n l) x i
+  unfolding workedBack byColumn columnAt numbered stateOf
+  worked i y ns work hi tab e is =
+      let g = r .geometry in
+      is ∙ gen-ext (g .b) (λ j. solved (g .d) i y (columnAt (numbered ns) (g .b) (a ++ n) j))
+      (λ j. solved (g .d) i (otherMissing g (missing g (stateOf (lent r a n l)) x) i) (column (original g (stateOf (lent r a n l)) x) j))
+      (λ j hj.
+      solved-ignores (g .d) i y (columnAt (numbered ns) (g .b) (a ++ n) j) (column (original g (stateOf (lent r a n l)) x) j) hi
+      (λ k hk _ _. ap (λ (m : ℕ). byteOf (g .b) (a ++ n) m j) (tab k hk) ∙ original-byte k j hk hj)
+      ∙ ap (λ (z : ℕ). solved (g .d) i z (column (original g (stateOf (lent r a n l)) x) j)) e)
+
+  -- ---- the block that a read gives
+
+  module _ (i : ℕ) where
+    pub given-sound : flagAt r (memberAt (r .geometry) x i) ≡ false
+        → block (r .geometry .b) (place (r .geometry .d) (r .geometry .s) x i) a ≡ givenBlock (lent r a n l) x i
+    unfolding blockAt stateOf
+    given-sound t = sym (choose-false (flagAt r (memberAt (r .geometry) x i)) _ _ t)
+
+    module _ (t : flagAt r (memberAt (r .geometry) x i) ≡ true) (v : ℕ) (e : v ≡ latest (words l) (r .geometry) (addressOf (r .geometry) x i)) where
+      pub given-log : v ≢ noneWord → block (r .geometry .b) v n ≡ givenBlock (lent r a n l) x i
+      unfolding blockAt stateOf latest
+      given-log u =
+          let w = said (words l) (r .geometry) (addressOf (r .geometry) x i) in
+          cur-or-ori (w .cur) (w .ori) (λ k. block (r .geometry .b) k n) (lostBlock (lent r a n l) x i) v e u
+          ∙ sym (choose-true (flagAt r (memberAt (r .geometry) x i)) _ _ t)
+
+      pub given-lost : v ≡ noneWord → lostBlock (lent r a n l) x i ≡ givenBlock (lent r a n l) x i
+      unfolding blockAt stateOf latest
+      given-lost u =
+          let w = said (words l) (r .geometry) (addressOf (r .geometry) x i) in
+          no-record (w .cur) (w .ori) (λ k. block (r .geometry .b) k n) (lostBlock (lent r a n l) x i) v e u
+          ∙ sym (choose-true (flagAt r (memberAt (r .geometry) x i)) _ _ t)
+
+    pub latest-low : (v : ℕ) → v ≡ latest (words l) (r .geometry) (addressOf (r .geometry) x i) → v ≢ noneWord → v * r .geometry .b + r .geometry .b ≤ length n
+    unfolding latest
+    latest-low v e u =
+        let Y = R .listing .range in
+        let w = said (words l) (r .geometry) (addressOf (r .geometry) x i) in
+        let low : v < r .next =
+        low-record (w .cur) (w .ori) (λ k. n) n v e (r .next)
+        (said-cur (words l) (r .geometry) (r .next) (r .listed) (omega (arith, Y .h-least)) (omega (arith, Y .d-least)) (Y .e-most) (R .listing .valid) (addressOf (r .geometry) x i))
+        (said-ori (words l) (r .geometry) (r .next) (r .listed) (omega (arith, Y .h-least)) (omega (arith, Y .d-least)) (Y .e-most) (R .listing .valid) (addressOf (r .geometry) x i)) u in
+        fits v (r .geometry .l) (r .geometry .b) n (R .log) (omega (arith, low, R .listing .room))
+
+    pub place-fits : i < r .geometry .d → place (r .geometry .d) (r .geometry .s) x i * r .geometry .b + r .geometry .b ≤ length a
+    place-fits h =
+        fits (place (r .geometry .d) (r .geometry .s) x i) ((r .geometry .d + 2) * r .geometry .s) (r .geometry .b) a (R .array)
+        (place-lt (r .geometry .d) (r .geometry .s) x i hx (omega arith))
+
+    pub lost-length : length (lostBlock (lent r a n l) x i) ≡ r .geometry .b
+    unfolding workedBack
+    lost-length = length-gen (r .geometry .b) _
+
+    pub given-length : i < r .geometry .d → length (givenBlock (lent r a n l) x i) ≡ r .geometry .b
+    given-length h =
+        cases (flagAt r (memberAt (r .geometry) x i))
+        (λ t. elim (ℕ-discrete (latest (words l) (r .geometry) (addressOf (r .geometry) x i)) noneWord) [
+          | yes q ↦ ap length (sym (given-lost t (latest (words l) (r .geometry) (addressOf (r .geometry) x i)) refl q)) ∙ lost-length
+          | no q ↦ ap length (sym (given-log t (latest (words l) (r .geometry) (addressOf (r .geometry) x i)) refl q))
+              ∙ length-block (r .geometry .b) (latest (words l) (r .geometry) (addressOf (r .geometry) x i)) n (latest-low (latest (words l) (r .geometry) (addressOf (r .geometry) x i)) refl q)
+        ])
+        (λ t. ap length (sym (given-sound t)) ∙ length-block (r .geometry .b) (place (r .geometry .d) (r .geometry .s) x i) a (place-fits h))
+
+-- ---- a block put into the caller's buffer, by what it is
+
+pub put-as : (b j : ℕ) (out v w o : List ℕ) → o ≡ put b j v out → v ≡ w → o ≡ put b j w out
+put-as b j out v w o e q = e ∙ ap (λ (z : List ℕ). put b j z out) q
+
+-- out of a working block
+pub put-worked : (b j : ℕ) (out u v o : List ℕ) → o ≡ put b j (block b 0 u) out → u ≡ v → length v ≡ b → o ≡ put b j v out
+put-worked b j out u v o e q size = put-as b j out (block b 0 u) v o e (block-whole b u (ap length q ∙ size) ∙ q)
+
+-- ---- a buffer filled with blocks, one after another
+
+-- the first j blocks of out are f's
+abbrev pub FilledTo : ℕ → (ℕ → List ℕ) → ℕ → List ℕ → Type 0
+FilledTo b f j out = (k : ℕ) → k < j → block b k out ≡ f k
+
+pub filled-none : (b : ℕ) (f : ℕ → List ℕ) (out : List ℕ) → FilledTo b f 0 out
+filled-none b f out k h = absurd (omega arith)
+
+pub filled-next : (b N : ℕ) (f : ℕ → List ℕ) (j : ℕ) (out : List ℕ) → length out ≡ N * b → j < N → length (f j) ≡ b → FilledTo b f j out
+    → FilledTo b f (j + 1) (put b j (f j) out)
+filled-next b N f j out len h size before k hk = elim (ℕ-discrete k j) [
+  | yes q ↦ subst (λ (m : ℕ). block b m (put b j (f j) out) ≡ f m) (sym q) (block-put-same b j out (f j) (fits j N b out len h) size)
+  | no q ↦ block-put-other b j k out (f j) (fits j N b out len h) (fits k N b out len (omega arith)) size q ∙ before k (omega arith)
+]
+
+pub filled-length : (b N : ℕ) (j : ℕ) (out v : List ℕ) → length out ≡ N * b → j < N → length v ≡ b → length (put b j v out) ≡ N * b
+filled-length b N j out v len h size = length-put b j out (fits j N b out len h) v size ∙ len
+
+-- a turn of the loop
+pub filled-turn : (b N : ℕ) (f : ℕ → List ℕ) (j : ℕ) (out o : List ℕ) → length out ≡ N * b → j < N → length (f j) ≡ b → FilledTo b f j out
+    → o ≡ put b j (f j) out → (length o ≡ N * b) × FilledTo b f (j + 1) o
+filled-turn b N f j out o len h size before e = (
+  ap length e ∙ filled-length b N j out (f j) len h size,
+  subst (λ (z : List ℕ). FilledTo b f (j + 1) z) (sym e) (filled-next b N f j out len h size before),
+)
+
+pub read-filled : (g : Geometry) (s : State) (a N j : ℕ) (out : List ℕ) → length out ≡ N * g .b → j ≡ N → FilledTo (g .b) (served g s a) j out
+    → out ≡ readBuffer g s a N
+unfolding readBuffer
+read-filled g s a N j out len e fill =
+    blocksOf-back N (g .b) (served g s a) out len (λ k h. sym (fill k (omega arith)))

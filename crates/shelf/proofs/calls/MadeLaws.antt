@@ -1,0 +1,455 @@
+-- Parity made afresh in the array and entries dropped from the list: what is left is what `made` and `remade` say. Laws for resync and full resync;
+-- write's stripes that are not logged, and rebuild, go by the same.
+-- Assumes nothing.
+use mathlib.Core.Bool.{Bool, true, false, not, _||_}
+use mathlib.Core.List.{List}
+use mathlib.Core.Logic.{_≢_}
+use mathlib.Core.Option.{Option, none}
+use mathlib.Core.Path.{_≡_, refl, sym, ap, ap₂, _∙_, subst}
+use Prim.Native.Nat.{ℕ, _+_, _*_, _≤_, _<_}
+use native.Mathlib.Decide.{ℕ-discrete}
+use native.Mathlib.Omega.{arith}
+use lib.ListN.{length, getD, replicate}
+use lib.Seq.{ext-getD}
+use Rattle.stripe.specs.Blocks.{block, byteOf, gen}
+use Rattle.stripe.specs.Parity.{parityP, parityQ}
+use Rattle.stripe.specs.Places.{place, columnAt, byColumn, parityMade, parityMadeAll}
+use Rattle.stripe.proofs.Laws.{made-length, made-others, made-in-p, made-in-q, all-length, all-data, all-obey, parityP-ext, parityQ-ext, place-lt, place-inj, place-other, fits, length-block, getD-block, length-gen, getD-gen}
+use Rattle.shelf.specs.Counting.{choose, setAt}
+use Rattle.shelf.specs.Members.{InRange, addressOf, column, blockP, blockQ}
+use Rattle.shelf.specs.State.{State, isSome, listed, stale, marksIn, freshState}
+use Rattle.shelf.specs.Calls.{nextLeft, modeLeft, settled, dropped, made, remade, overwritten}
+use Rattle.shelf.specs.Words.{words}
+use Rattle.shelf.specs.HashList.{noneWord, Entry, entry, entries, said, valid, listedIn, staleIn}
+use Rattle.shelf.specs.Rewriting.{Rewritten, dropStripe}
+use Rattle.shelf.specs.Lent.{Lent, lent, recordAt, oriBy, curBy, arrayBlock, arrayLength, listedBy, listLength, flagsOf, recordOf, roleBlock, logOf, formatted, Leaves}
+use Rattle.shelf.specs.Records.{withListed}
+use Rattle.shelf.specs.declared.record.Geometry.{Geometry}
+use Rattle.shelf.specs.declared.record.Shelf.{Shelf}
+use Rattle.shelf.proofs.general.AddressLaws.{stripe-of}
+use Rattle.shelf.proofs.general.CountLaws.{any-ext, any-none, setAt-here, setAt-other, setRow-here, setRow-other}
+use Rattle.shelf.proofs.lent.FormatLaws.{none-bytes}
+use Rattle.shelf.proofs.lent.FreshLaws.{fresh-leaves}
+use Rattle.shelf.proofs.lent.LayoutLaws.{array-is, role-data, role-p, role-q, by-role}
+use Rattle.shelf.proofs.agreement.ListedLaws.{unlisted, marksIn-ext, no-marks}
+use Rattle.shelf.proofs.hashlist.ListMarks.{listed-found, marks-listed}
+use Rattle.shelf.proofs.hashlist.ListMeaning.{length-encode, dropped-valid, dropped-left, dropped-gone, dropped-kept}
+use Rattle.shelf.proofs.general.TestLaws.{cases}
+use Rattle.shelf.proofs.hashlist.WordLaws.{length-bytes}
+
+-- ---- a block by its bytes
+
+block-is : (b n : ℕ) (l v : List ℕ) → n * b + b ≤ length l → length v ≡ b → ((j : ℕ) → j < b → byteOf b l n j ≡ getD v j 0) → block b n l ≡ v
+unfolding byteOf
+block-is b n l v h e same =
+    ext-getD 0 (block b n l) v (length-block b n l h ∙ sym e)
+    (λ j p. let q : j < b = omega (arith, length-block b n l h) in getD-block b n l j q ∙ same j q)
+
+byte-block : (b n : ℕ) (l : List ℕ) (j : ℕ) → j < b → byteOf b l n j ≡ getD (block b n l) j 0
+unfolding byteOf
+byte-block b n l j p = sym (getD-block b n l j p)
+
+-- ---- what is lent is a state, part by part: array and list are carried from stripe to stripe as these two say
+
+-- the array a holds the state's blocks
+pub record Reads (g : Geometry) (s : State) (a : List ℕ) : Type 0 where
+  pub long : length a ≡ arrayLength g
+  pub blocks : (x i : ℕ) → x < g .s → i < g .d + 2 → roleBlock g s x i ≡ arrayBlock g a x i
+
+-- the list l has k entries, passes number 3 with the state's next free record, and says of each block what the state says
+pub record Says (g : Geometry) (s : State) (k : ℕ) (l : List ℕ) : Type 0 where
+  pub length-of : length l ≡ listLength g
+  pub passes : valid (words l) g (s .log .next) k ≡ true
+  pub ori : (x i : ℕ) → x < g .s → i < g .d → oriBy g l x i ≡ s .log .ori x i
+  pub cur : (x i : ℕ) → x < g .s → i < g .d → curBy g l x i ≡ s .log .cur x i
+
+pub says-marks : (g : Geometry) (s : State) (k : ℕ) (l : List ℕ) → InRange g → Says g s k l → marksIn g (listed (s .log)) ≡ k
+says-marks g s k l Y Z =
+    marksIn-ext g (listed (s .log)) (listedBy g l)
+    (λ x i hx hi. ap₂ (λ (o c : Option ℕ). isSome o || isSome c) (sym (Z .ori x i hx hi)) (sym (Z .cur x i hx hi)))
+    ∙ marks-listed g l (s .log .next) k Y (Z .passes)
+
+pub leaves-by : (g : Geometry) (s : State) (r : Shelf) (a n l : List ℕ) → InRange g → r ≡ recordOf g s → Reads g s a → n ≡ logOf g s → Says g s (r .listed) l
+    → Leaves g s (lent r a n l)
+leaves-by g s r a n l Y er A en Z =
+    record {
+      shelf = er;
+      array = array-is g s a (Y .s-least) (A .long) (A .blocks);
+      log = en;
+      length-of = Z .length-of;
+      passes = ap (λ (v : Shelf). valid (words l) g (v .next) (r .listed)) er ∙ Z .passes;
+      ori = Z .ori;
+      cur = Z .cur;
+    }
+
+-- and back, for the list
+pub leaves-says : (g : Geometry) (s : State) (h : Lent) → Leaves g s h → Says g s (h .shelf .listed) (h .list)
+leaves-says g s h L =
+    record {
+      length-of = L .length-of;
+      passes = ap (λ (v : Shelf). valid (words (h .list)) g (v .next) (h .shelf .listed)) (sym (L .shelf)) ∙ L .passes;
+      ori = L .ori;
+      cur = L .cur;
+    }
+
+-- ---- one stripe: the array
+
+-- the array a is the state's but for stripe t, whose data blocks are those of row; its P and Q are not looked at
+pub record Rowed (g : Geometry) (s : State) (t : ℕ) (row : ℕ → List ℕ) (a : List ℕ) : Type 0 where
+  pub long : length a ≡ arrayLength g
+  pub here : (i : ℕ) → i < g .d → arrayBlock g a t i ≡ row i
+  pub disk : (x i : ℕ) → x < g .s → x ≢ t → i < g .d → arrayBlock g a x i ≡ s .disk x i
+  pub p : (x : ℕ) → x < g .s → x ≢ t → arrayBlock g a x (g .d) ≡ s .p x
+  pub q : (x : ℕ) → x < g .s → x ≢ t → arrayBlock g a x (g .d + 1) ≡ s .q x
+
+module _ (g : Geometry) (s : State) (t : ℕ) (row : ℕ → List ℕ) (a : List ℕ) (ht : t < g .s) (R : Rowed g s t row a) where
+  abbrev at : ℕ → ℕ
+  at = place (g .d) (g .s) t
+
+  abbrev after : List ℕ
+  after = parityMade (place (g .d) (g .s) t) (g .d) (g .b) a
+
+  room : (x i : ℕ) → x < g .s → i < g .d + 2 → place (g .d) (g .s) x i * g .b + g .b ≤ length a
+  room x i hx hi = fits (place (g .d) (g .s) x i) ((g .d + 2) * g .s) (g .b) a (R .long) (place-lt (g .d) (g .s) x i hx hi)
+
+  own : (i k : ℕ) → i < g .d + 2 → k < g .d + 2 → i ≢ k → at i ≢ at k
+  own i k hi hk ne e = ne (place-inj (g .d) (g .s) t i k ht hi hk e)
+
+  after-long : length after ≡ length a
+  after-long = made-length at (g .d) (g .b) a (λ i h. room t i ht h) own
+
+  after-room : (x i : ℕ) → x < g .s → i < g .d + 2 → place (g .d) (g .s) x i * g .b + g .b ≤ length after
+  after-room x i hx hi = omega (arith, after-long, room x i hx hi)
+
+  -- a block that is neither P nor Q of stripe t
+  stays : (x i : ℕ) → x < g .s → i < g .d + 2 → place (g .d) (g .s) x i ≢ at (g .d) → place (g .d) (g .s) x i ≢ at (g .d + 1)
+      → arrayBlock g after x i ≡ arrayBlock g a x i
+  stays x i hx hi u v =
+      block-is (g .b) (place (g .d) (g .s) x i) after (arrayBlock g a x i) (after-room x i hx hi)
+      (length-block (g .b) (place (g .d) (g .s) x i) a (room x i hx hi))
+      (λ j l. made-others at (g .d) (g .b) a (λ k h. room t k ht h) own (place (g .d) (g .s) x i) j l u v ∙ byte-block (g .b) (place (g .d) (g .s) x i) a j l)
+
+  elsewhere : (x i : ℕ) → x < g .s → i < g .d + 2 → x ≢ t → arrayBlock g after x i ≡ arrayBlock g a x i
+  elsewhere x i hx hi ne = stays x i hx hi (place-other (g .d) (g .s) x t i (g .d) hx ht ne) (place-other (g .d) (g .s) x t i (g .d + 1) hx ht ne)
+
+  in-row : (i : ℕ) → i < g .d → arrayBlock g after t i ≡ row i
+  in-row i hi =
+      stays t i ht (omega arith) (own i (g .d) (omega arith) (omega arith) (λ e. omega arith)) (own i (g .d + 1) (omega arith) (omega arith) (λ e. omega arith))
+      ∙ R .here i hi
+
+  columns : (j : ℕ) → j < g .b → (i : ℕ) → i < g .d → columnAt at (g .b) a j i ≡ column row j i
+  unfolding columnAt
+  columns j l i hi = byte-block (g .b) (at i) a j l ∙ ap (λ (v : List ℕ). getD v j 0) (R .here i hi)
+
+  in-p : arrayBlock g after t (g .d) ≡ blockP g row
+  unfolding blockP byColumn
+  in-p =
+      block-is (g .b) (at (g .d)) after (gen (g .b) (λ j. parityP (g .d) (column row j))) (after-room t (g .d) ht (omega arith))
+      (length-gen (g .b) (λ j. parityP (g .d) (column row j)))
+      (λ j l. made-in-p at (g .d) (g .b) a (λ k h. room t k ht h) own j l ∙ parityP-ext (g .d) (columnAt at (g .b) a j) (column row j) (columns j l)
+      ∙ sym (getD-gen (g .b) (λ j. parityP (g .d) (column row j)) j l))
+
+  in-q : arrayBlock g after t (g .d + 1) ≡ blockQ g row
+  unfolding blockQ byColumn
+  in-q =
+      block-is (g .b) (at (g .d + 1)) after (gen (g .b) (λ j. parityQ (g .d) (column row j))) (after-room t (g .d + 1) ht (omega arith))
+      (length-gen (g .b) (λ j. parityQ (g .d) (column row j)))
+      (λ j l. made-in-q at (g .d) (g .b) a (λ k h. room t k ht h) own j l ∙ parityQ-ext (g .d) (columnAt at (g .b) a j) (column row j) (columns j l)
+      ∙ sym (getD-gen (g .b) (λ j. parityQ (g .d) (column row j)) j l))
+
+  -- the array with the stripe's parity made holds the blocks of `made`
+  pub made-reads : Reads g (made g s t row) (parityMade (place (g .d) (g .s) t) (g .d) (g .b) a)
+  unfolding made settled
+  made-reads =
+      record {
+        long = after-long ∙ R .long;
+        blocks = λ x i hx hi.
+            by-role g (λ k. roleBlock g (made g s t row) x k ≡ arrayBlock g after x k)
+            (λ k hk. role-data g (made g s t row) x k hk ∙
+            elim (ℕ-discrete x t) [
+              | yes e ↦ setRow-here t row (s .disk) x k e ∙ sym (in-row k hk) ∙ ap (λ (y : ℕ). arrayBlock g after y k) (sym e)
+              | no ne ↦ setRow-other t row (s .disk) x k ne ∙ sym (R .disk x k hx ne hk) ∙ sym (elsewhere x k hx (omega arith) ne)
+            ])
+            (role-p g (made g s t row) x ∙
+            elim (ℕ-discrete x t) [
+              | yes e ↦ setAt-here t (blockP g row) (s .p) x e ∙ sym in-p ∙ ap (λ (y : ℕ). arrayBlock g after y (g .d)) (sym e)
+              | no ne ↦ setAt-other t (blockP g row) (s .p) x ne ∙ sym (R .p x hx ne) ∙ sym (elsewhere x (g .d) hx (omega arith) ne)
+            ])
+            (role-q g (made g s t row) x ∙
+            elim (ℕ-discrete x t) [
+              | yes e ↦ setAt-here t (blockQ g row) (s .q) x e ∙ sym in-q ∙ ap (λ (y : ℕ). arrayBlock g after y (g .d + 1)) (sym e)
+              | no ne ↦ setAt-other t (blockQ g row) (s .q) x ne ∙ sym (R .q x hx ne) ∙ sym (elsewhere x (g .d + 1) hx (omega arith) ne)
+            ])
+            i hi;
+      }
+
+-- the array of a state, with the data blocks of stripe t that w picks replaced: what a write leaves before parity is made. For w of none it is the
+-- array as it was
+pub rowed : (g : Geometry) (s : State) (t : ℕ) (w : ℕ → Bool) (v : ℕ → List ℕ) (a a' : List ℕ) → t < g .s → Reads g s a → length a' ≡ length a
+    → ((i : ℕ) → i < g .d → arrayBlock g a' t i ≡ choose (w i) (v i) (arrayBlock g a t i))
+    → ((x i : ℕ) → x < g .s → x ≢ t → i < g .d + 2 → arrayBlock g a' x i ≡ arrayBlock g a x i) → Rowed g s t (overwritten w v (s .disk t)) a'
+rowed g s t w v a a' ht A long here other =
+    record {
+      long = long ∙ A .long;
+      here = λ i hi. here i hi ∙ ap (λ (o : List ℕ). choose (w i) (v i) o) (sym (A .blocks t i ht (omega arith)) ∙ role-data g s t i hi);
+      disk = λ x i hx ne hi. other x i hx ne (omega arith) ∙ sym (A .blocks x i hx (omega arith)) ∙ role-data g s x i hi;
+      p = λ x hx ne. other x (g .d) hx ne (omega arith) ∙ sym (A .blocks x (g .d) hx (omega arith)) ∙ role-p g s x;
+      q = λ x hx ne. other x (g .d + 1) hx ne (omega arith) ∙ sym (A .blocks x (g .d + 1) hx (omega arith)) ∙ role-q g s x;
+    }
+
+-- the same of an array in which nothing is replaced
+pub rowed-same : (g : Geometry) (s : State) (t : ℕ) (a : List ℕ) → t < g .s → Reads g s a → Rowed g s t (s .disk t) a
+rowed-same g s t a ht A =
+    record {
+      long = A .long;
+      here = λ i hi. sym (A .blocks t i ht (omega arith)) ∙ role-data g s t i hi;
+      disk = λ x i hx ne hi. sym (A .blocks x i hx (omega arith)) ∙ role-data g s x i hi;
+      p = λ x hx ne. sym (A .blocks x (g .d) hx (omega arith)) ∙ role-p g s x;
+      q = λ x hx ne. sym (A .blocks x (g .d + 1) hx (omega arith)) ∙ role-q g s x;
+    }
+
+-- ---- one stripe: the list and the record
+
+none-word : recordAt noneWord ≡ none
+unfolding recordAt choose
+none-word = refl
+
+-- the stripe's entries dropped: l₀ before, l after
+module _ (g : Geometry) (s : State) (t : ℕ) (row : ℕ → List ℕ) (Y : InRange g) (k₀ k : ℕ) (l₀ l : List ℕ) (most : k₀ ≤ g .e) (Z : Says g s k₀ l₀)
+    (W : Rewritten g (dropStripe (g .d) t (entries (words l₀) g)) l k) where
+  said-gone : (x i : ℕ) → i < g .d → x ≡ t → said (words l) g (addressOf g x i) ≡ entry (addressOf g x i) noneWord noneWord
+  said-gone x i hi e =
+      dropped-gone (words l₀) g (s .log .next) k₀ (Y .h-least) (omega (arith, Y .d-least)) (Y .e-most) most (Z .passes) t k l W (addressOf g x i) (stripe-of x (g .d) i hi ∙ e)
+
+  said-kept : (x i : ℕ) → i < g .d → x ≢ t → said (words l) g (addressOf g x i) ≡ said (words l₀) g (addressOf g x i)
+  said-kept x i hi ne =
+      dropped-kept (words l₀) g (s .log .next) k₀ (Y .h-least) (omega (arith, Y .d-least)) (Y .e-most) most (Z .passes) t k l W (addressOf g x i)
+      (λ q. ne (sym (stripe-of x (g .d) i hi) ∙ q))
+
+  dropped-ori : (x i : ℕ) → x < g .s → i < g .d → oriBy g l x i ≡ setAt t (λ _. none) (s .log .ori) x i
+  dropped-ori x i hx hi =
+      elim (ℕ-discrete x t) [
+        | yes e ↦ ap (λ (v : Entry). recordAt (v .ori)) (said-gone x i hi e) ∙ none-word ∙ sym (setRow-here t (λ _. none) (s .log .ori) x i e)
+        | no ne ↦ ap (λ (v : Entry). recordAt (v .ori)) (said-kept x i hi ne) ∙ Z .ori x i hx hi ∙ sym (setRow-other t (λ _. none) (s .log .ori) x i ne)
+      ]
+
+  dropped-cur : (x i : ℕ) → x < g .s → i < g .d → curBy g l x i ≡ setAt t (λ _. none) (s .log .cur) x i
+  dropped-cur x i hx hi =
+      elim (ℕ-discrete x t) [
+        | yes e ↦ ap (λ (v : Entry). recordAt (v .cur)) (said-gone x i hi e) ∙ none-word ∙ sym (setRow-here t (λ _. none) (s .log .cur) x i e)
+        | no ne ↦ ap (λ (v : Entry). recordAt (v .cur)) (said-kept x i hi ne) ∙ Z .cur x i hx hi ∙ sym (setRow-other t (λ _. none) (s .log .cur) x i ne)
+      ]
+
+  -- as many blocks are left listed as entries
+  dropped-marks : k ≡ marksIn g (listed (dropped (s .log) t))
+  dropped-marks =
+      sym (marks-listed g l (s .log .next) k Y (dropped-valid (words l₀) g (s .log .next) k₀ (Y .h-least) (omega (arith, Y .d-least)) (Y .e-most) most (Z .passes) t k l W))
+      ∙ marksIn-ext g (listedBy g l) (listed (dropped (s .log) t))
+      (λ x i hx hi. ap₂ (λ (o c : Option ℕ). isSome o || isSome c) (dropped-ori x i hx hi) (dropped-cur x i hx hi))
+
+  pub made-says : Says g (made g s t row) k l
+  unfolding made settled
+  made-says =
+      record {
+        length-of = ap length (W .0) ∙ length-bytes _ ∙ (let q = length-encode g (dropStripe (g .d) t (entries (words l₀) g)) (Y .h-least) (Y .e-most) in omega (arith, q));
+        passes = ap (λ (m : ℕ). valid (words l) g (nextLeft m (s .log .next)) k) (sym dropped-marks)
+            ∙ dropped-left (words l₀) g (s .log .next) k₀ (Y .h-least) (omega (arith, Y .d-least)) (Y .e-most) most (Z .passes) t k l W;
+        ori = dropped-ori;
+        cur = dropped-cur;
+      }
+
+-- A stripe that is not stale has no entries, and the list is left as it is. (A list that a call does not alter must keep its bytes, so the code may not
+-- write it anew then.)
+module _ (g : Geometry) (s : State) (t : ℕ) (row : ℕ → List ℕ) (Y : InRange g) (k : ℕ) (l : List ℕ) (Z : Says g s k l)
+    (clean : (i : ℕ) → i < g .d → listed (s .log) t i ≡ false) (idle : nextLeft k (s .log .next) ≡ s .log .next) where
+  clean-ori : (x i : ℕ) → i < g .d → s .log .ori x i ≡ setAt t (λ _. none) (s .log .ori) x i
+  clean-ori x i hi =
+      elim (ℕ-discrete x t) [
+        | yes e ↦ ap (λ (y : ℕ). s .log .ori y i) e ∙ unlisted (s .log) t i (clean i hi) .0 ∙ sym (setRow-here t (λ _. none) (s .log .ori) x i e)
+        | no ne ↦ sym (setRow-other t (λ _. none) (s .log .ori) x i ne)
+      ]
+
+  clean-cur : (x i : ℕ) → i < g .d → s .log .cur x i ≡ setAt t (λ _. none) (s .log .cur) x i
+  clean-cur x i hi =
+      elim (ℕ-discrete x t) [
+        | yes e ↦ ap (λ (y : ℕ). s .log .cur y i) e ∙ unlisted (s .log) t i (clean i hi) .1 ∙ sym (setRow-here t (λ _. none) (s .log .cur) x i e)
+        | no ne ↦ sym (setRow-other t (λ _. none) (s .log .cur) x i ne)
+      ]
+
+  clean-marks : marksIn g (listed (dropped (s .log) t)) ≡ k
+  clean-marks =
+      marksIn-ext g (listed (dropped (s .log) t)) (listed (s .log))
+      (λ x i hx hi. ap₂ (λ (o c : Option ℕ). isSome o || isSome c) (sym (clean-ori x i hi)) (sym (clean-cur x i hi))) ∙ says-marks g s k l Y Z
+
+  pub clean-says : Says g (made g s t row) k l
+  unfolding made settled
+  clean-says =
+      record {
+        length-of = Z .length-of;
+        passes = ap (λ (m : ℕ). valid (words l) g m k) (ap (λ (m : ℕ). nextLeft m (s .log .next)) clean-marks ∙ idle) ∙ Z .passes;
+        ori = λ x i hx hi. Z .ori x i hx hi ∙ clean-ori x i hi;
+        cur = λ x i hx hi. Z .cur x i hx hi ∙ clean-cur x i hi;
+      }
+
+-- a stripe is stale in the list where it is in the state
+pub says-stale : (g : Geometry) (s : State) (k : ℕ) (l : List ℕ) → InRange g → Says g s k l → (x : ℕ) → x < g .s → staleIn (words l) g x ≡ stale g (listed (s .log)) x
+unfolding staleIn
+says-stale g s k l Y Z x hx =
+    any-ext (g .d) (listedIn (words l) g x) (listed (s .log) x)
+    (λ i hi. sym (listed-found g l (s .log .next) k Y (Z .passes) x i) ∙ ap₂ (λ (o c : Option ℕ). isSome o || isSome c) (Z .ori x i hx hi) (Z .cur x i hx hi))
+
+-- the stripe's entries dropped where there are some, the list left where there are none: as `drop_stale` does
+pub dropped-says : (g : Geometry) (s : State) (t : ℕ) (row : ℕ → List ℕ) → InRange g → t < g .s → (k₀ k : ℕ) (l₀ l : List ℕ) → k₀ ≤ g .e
+    → nextLeft k₀ (s .log .next) ≡ s .log .next → Says g s k₀ l₀
+    → (staleIn (words l₀) g t ≡ true → Rewritten g (dropStripe (g .d) t (entries (words l₀) g)) l k) → (staleIn (words l₀) g t ≡ false → (l ≡ l₀) × (k ≡ k₀))
+    → Says g (made g s t row) k l
+dropped-says g s t row Y ht k₀ k l₀ l most idle Z drops stays =
+    cases (staleIn (words l₀) g t)
+    (λ y. made-says g s t row Y k₀ k l₀ l most Z (drops y))
+    (λ y.
+    subst (λ (m : ℕ). Says g (made g s t row) m l) (sym (stays y .1))
+    (subst (λ (b : List ℕ). Says g (made g s t row) k₀ b) (sym (stays y .0))
+    (clean-says g s t row Y k₀ l₀ Z (any-none (g .d) (listed (s .log) t) (sym (says-stale g s k₀ l₀ Y Z t ht) ∙ y)) idle)))
+
+-- the record with k entries left
+pub made-record : (g : Geometry) (s : State) (t : ℕ) (row : ℕ → List ℕ) (r : Shelf) (k : ℕ) (l : List ℕ) → InRange g → r ≡ recordOf g s → Says g (made g s t row) k l
+    → withListed r k ≡ recordOf g (made g s t row)
+unfolding made settled
+made-record g s t row r k l Y er Z =
+    let m : k ≡ marksIn g (listed (made g s t row .log)) = sym (says-marks g (made g s t row) k l Y Z) in
+    ap (λ (v : Shelf). withListed v k) er
+    ∙ (λ i. record { geometry = g; mode = modeLeft (m i) (s .mode); next = nextLeft (m i) (s .log .next); listed = m i; failed = flagsOf (s .failed) })
+
+pub made-log : (g : Geometry) (s : State) (t : ℕ) (row : ℕ → List ℕ) (n : List ℕ) → n ≡ logOf g s → n ≡ logOf g (made g s t row)
+unfolding made settled logOf
+made-log g s t row n e = e
+
+-- Stripe t with the data blocks of row made, all of it: from what is lent as the state s, but for the array a, which has the row already.
+pub made-leaves : (g : Geometry) (s : State) (t : ℕ) (row : ℕ → List ℕ) (r : Shelf) (k : ℕ) (a n l : List ℕ) → InRange g → t < g .s → r ≡ recordOf g s → n ≡ logOf g s
+    → Rowed g s t row a → Says g (made g s t row) k l
+    → Leaves g (made g s t row) (lent (withListed r k) (parityMade (place (g .d) (g .s) t) (g .d) (g .b) a) n l)
+made-leaves g s t row r k a n l Y ht er en R Z =
+    leaves-by g (made g s t row) (withListed r k) (parityMade (place (g .d) (g .s) t) (g .d) (g .b) a) n l Y (made-record g s t row r k l Y er Z) (made-reads g s t row a ht R)
+    (made-log g s t row n en) Z
+
+-- ---- all stripes
+
+-- the data blocks of the array a are those of disk; its P and Q are not looked at
+pub record Filled (g : Geometry) (disk : ℕ → ℕ → List ℕ) (a : List ℕ) : Type 0 where
+  pub long : length a ≡ arrayLength g
+  pub blocks : (x i : ℕ) → x < g .s → i < g .d → arrayBlock g a x i ≡ disk x i
+
+module _ (g : Geometry) (disk : ℕ → ℕ → List ℕ) (a : List ℕ) (F : Filled g disk a) where
+  abbrev at-all : ℕ → ℕ → ℕ
+  at-all = place (g .d) (g .s)
+
+  abbrev all-after : List ℕ
+  all-after = parityMadeAll (g .s) (place (g .d) (g .s)) (g .d) (g .b) a
+
+  all-room : (x i : ℕ) → x < g .s → i < g .d + 2 → place (g .d) (g .s) x i * g .b + g .b ≤ length a
+  all-room x i hx hi = fits (place (g .d) (g .s) x i) ((g .d + 2) * g .s) (g .b) a (F .long) (place-lt (g .d) (g .s) x i hx hi)
+
+  all-own : (x i k : ℕ) → x < g .s → i < g .d + 2 → k < g .d + 2 → i ≢ k → at-all x i ≢ at-all x k
+  all-own x i k hx hi hk ne e = ne (place-inj (g .d) (g .s) x i k hx hi hk e)
+
+  all-apart : (x y i k : ℕ) → x < g .s → y < g .s → x ≢ y → at-all x i ≢ at-all y k
+  all-apart x y i k hx hy ne = place-other (g .d) (g .s) x y i k hx hy ne
+
+  all-long : length all-after ≡ length a
+  all-long = all-length at-all (g .d) (g .s) (g .b) a all-room all-own all-apart (g .s) (omega arith)
+
+  all-after-room : (x i : ℕ) → x < g .s → i < g .d + 2 → place (g .d) (g .s) x i * g .b + g .b ≤ length all-after
+  all-after-room x i hx hi = omega (arith, all-long, all-room x i hx hi)
+
+  all-columns : (x j : ℕ) → x < g .s → j < g .b → (i : ℕ) → i < g .d → columnAt (at-all x) (g .b) all-after j i ≡ column (disk x) j i
+  unfolding columnAt
+  all-columns x j hx l i hi =
+      all-data at-all (g .d) (g .s) (g .b) a all-room all-own all-apart (g .s) x i j (omega arith) hx hi l
+      ∙ byte-block (g .b) (at-all x i) a j l ∙ ap (λ (v : List ℕ). getD v j 0) (F .blocks x i hx hi)
+
+  all-in-data : (x i : ℕ) → x < g .s → i < g .d → arrayBlock g all-after x i ≡ disk x i
+  unfolding columnAt
+  all-in-data x i hx hi =
+      block-is (g .b) (at-all x i) all-after (disk x i) (all-after-room x i hx (omega arith))
+      (sym (ap length (F .blocks x i hx hi)) ∙ length-block (g .b) (at-all x i) a (all-room x i hx (omega arith)))
+      (λ j l. all-columns x j hx l i hi)
+
+  all-in-p : (x : ℕ) → x < g .s → arrayBlock g all-after x (g .d) ≡ blockP g (disk x)
+  unfolding blockP columnAt
+  all-in-p x hx =
+      block-is (g .b) (at-all x (g .d)) all-after (gen (g .b) (λ j. parityP (g .d) (column (disk x) j))) (all-after-room x (g .d) hx (omega arith))
+      (length-gen (g .b) (λ j. parityP (g .d) (column (disk x) j)))
+      (λ j l. all-obey at-all (g .d) (g .s) (g .b) a all-room all-own all-apart (g .s) x j (omega arith) hx l .p
+      ∙ parityP-ext (g .d) (columnAt (at-all x) (g .b) all-after j) (column (disk x) j) (all-columns x j hx l)
+      ∙ sym (getD-gen (g .b) (λ j. parityP (g .d) (column (disk x) j)) j l))
+
+  all-in-q : (x : ℕ) → x < g .s → arrayBlock g all-after x (g .d + 1) ≡ blockQ g (disk x)
+  unfolding blockQ columnAt
+  all-in-q x hx =
+      block-is (g .b) (at-all x (g .d + 1)) all-after (gen (g .b) (λ j. parityQ (g .d) (column (disk x) j))) (all-after-room x (g .d + 1) hx (omega arith))
+      (length-gen (g .b) (λ j. parityQ (g .d) (column (disk x) j)))
+      (λ j l. all-obey at-all (g .d) (g .s) (g .b) a all-room all-own all-apart (g .s) x j (omega arith) hx l .q
+      ∙ parityQ-ext (g .d) (columnAt (at-all x) (g .b) all-after j) (column (disk x) j) (all-columns x j hx l)
+      ∙ sym (getD-gen (g .b) (λ j. parityQ (g .d) (column (disk x) j)) j l))
+
+  -- the array with all parity made holds the blocks of `remade`
+  pub remade-reads : (s : State) (f : ℕ → Bool) → Reads g (remade g s disk f) (parityMadeAll (g .s) (place (g .d) (g .s)) (g .d) (g .b) a)
+  unfolding remade
+  remade-reads s f =
+      record {
+        long = all-long ∙ F .long;
+        blocks = λ x i hx hi.
+            by-role g (λ k. roleBlock g (remade g s disk f) x k ≡ arrayBlock g all-after x k)
+            (λ k hk. role-data g (remade g s disk f) x k hk ∙ sym (all-in-data x k hx hk))
+            (role-p g (remade g s disk f) x ∙ sym (all-in-p x hx))
+            (role-q g (remade g s disk f) x ∙ sym (all-in-q x hx)) i hi;
+      }
+
+-- ---- the list emptied: every byte 255
+
+empty-bytes : (g : Geometry) → replicate (listLength g) 255 ≡ formatted g .list
+unfolding formatted
+empty-bytes g =
+    let q : 4 * g .h + 16 * g .e ≡ 4 * (g .h + 4 * g .e) = omega arith in
+    ap (λ (k : ℕ). replicate k 255) q ∙ sym (none-bytes (g .h + 4 * g .e))
+
+fresh-passes : (g : Geometry) → InRange g → valid (words (formatted g .list)) g 0 0 ≡ true
+unfolding formatted
+fresh-passes g Y = fresh-leaves g Y .passes
+
+fresh-ori : (g : Geometry) → InRange g → (x i : ℕ) → x < g .s → i < g .d → oriBy g (formatted g .list) x i ≡ none
+unfolding freshState
+fresh-ori g Y x i hx hi = fresh-leaves g Y .ori x i hx hi
+
+fresh-cur : (g : Geometry) → InRange g → (x i : ℕ) → x < g .s → i < g .d → curBy g (formatted g .list) x i ≡ none
+unfolding freshState
+fresh-cur g Y x i hx hi = fresh-leaves g Y .cur x i hx hi
+
+pub remade-says : (g : Geometry) (s : State) (disk : ℕ → ℕ → List ℕ) (f : ℕ → Bool) → InRange g → Says g (remade g s disk f) 0 (replicate (listLength g) 255)
+unfolding remade
+remade-says g s disk f Y =
+    let same = empty-bytes g in
+    record {
+      length-of = ap length same ∙ fresh-leaves g Y .length-of;
+      passes = ap (λ (w : List ℕ). valid (words w) g 0 0) same ∙ fresh-passes g Y;
+      ori = λ x i hx hi. ap (λ (w : List ℕ). oriBy g w x i) same ∙ fresh-ori g Y x i hx hi;
+      cur = λ x i hx hi. ap (λ (w : List ℕ). curBy g w x i) same ∙ fresh-cur g Y x i hx hi;
+    }
+
+-- the record of an emptied shelf in mode 0
+pub remade-record : (g : Geometry) (s : State) (disk : ℕ → ℕ → List ℕ) (f : ℕ → Bool)
+    → record { geometry = g; mode = 0; next = 0; listed = 0; failed = flagsOf f } ≡ recordOf g (remade g s disk f)
+unfolding remade isSome
+remade-record g s disk f = λ i. record { geometry = g; mode = 0; next = 0; listed = sym (no-marks g) i; failed = flagsOf f }
+
+pub remade-log : (g : Geometry) (s : State) (disk : ℕ → ℕ → List ℕ) (f : ℕ → Bool) (n : List ℕ) → n ≡ logOf g s → n ≡ logOf g (remade g s disk f)
+unfolding remade logOf
+remade-log g s disk f n e = e
+
+-- All stripes with the data blocks of disk made, all of it: the array a has the blocks already.
+pub remade-leaves : (g : Geometry) (s : State) (disk : ℕ → ℕ → List ℕ) (f : ℕ → Bool) (a n : List ℕ) → InRange g → Filled g disk a → n ≡ logOf g s
+    → Leaves g (remade g s disk f)
+    (lent (record { geometry = g; mode = 0; next = 0; listed = 0; failed = flagsOf f }) (parityMadeAll (g .s) (place (g .d) (g .s)) (g .d) (g .b) a) n (replicate (listLength g) 255))
+remade-leaves g s disk f a n Y F en =
+    leaves-by g (remade g s disk f) (record { geometry = g; mode = 0; next = 0; listed = 0; failed = flagsOf f }) (parityMadeAll (g .s) (place (g .d) (g .s)) (g .d) (g .b) a) n
+    (replicate (listLength g) 255) Y (remade-record g s disk f) (remade-reads g disk a F s f) (remade-log g s disk f n en) (remade-says g s disk f Y)

@@ -1,0 +1,293 @@
+-- Blocks as a read's functions find them, by the list's words and by block numbers: they are the state's.
+-- Assumes nothing.
+use mathlib.Core.Bool.{Bool, true, false, not, _&&_, _||_}
+use mathlib.Core.List.{List}
+use mathlib.Core.Logic.{_≢_}
+use mathlib.Core.Option.{Option, none, some}
+use mathlib.Core.Path.{_≡_, refl, sym, ap, ap₂, _∙_, subst}
+use Prim.Native.Nat.{ℕ, _+_, _*_, _-_, _/_, _%_, _≤_, _<_}
+use native.Mathlib.Nat.{mul-le-mul, mul-comm, div-lt-iff-lt-mul, mod-lt}
+use native.Mathlib.Omega.{arith}
+use native.Mathlib.Decide.{ℕ-discrete}
+use lib.Dec.{eqb, ltb}
+use lib.ListN.{length}
+use borrow.Author.Tests.{lt-ltb, le-ltb, eq-eqb, ne-eqb, ltb-true, ltb-false, eqb-true, eqb-false}
+use Rattle.shelf.specs.Counting.{choose, any, first}
+use Rattle.shelf.specs.Members.{InRange, arrayMembers, memberAt, stripeOf, indexOf, addressOf, otherMissing}
+use Rattle.shelf.specs.State.{isSome, stale}
+use Rattle.shelf.specs.Status.{read, badAddress, badData, withheld, readWithheld, codeOf}
+use Rattle.shelf.specs.Calls.{orElse, work}
+use Rattle.shelf.specs.Words.{words}
+use Rattle.shelf.specs.HashList.{Entry, entry, entryAt, noneWord, oriAt, curAt, lookup, said, valid, listedIn, staleIn}
+use Rattle.shelf.specs.Lent.{lent, stateOf, recordAt, oriBy, listedBy, flag, flagAt, numberOf, triesList, Answered}
+use Rattle.shelf.specs.Reading.{ListReady, Ready, latest, originalPlace, missingBy}
+use Rattle.shelf.specs.declared.record.Geometry.{Geometry}
+use Rattle.shelf.specs.declared.record.Shelf.{Shelf}
+use Rattle.stripe.specs.Places.{place}
+use Rattle.shelf.proofs.general.TestLaws.{cases, choose-true, choose-false, or-true, or-right, and-false, not-off, same-bool}
+use Rattle.shelf.proofs.hashlist.ListMarks.{listed-found}
+use Rattle.shelf.proofs.general.WalkLaws.{first-is, any-turn}
+use Rattle.shelf.proofs.general.CountLaws.{any-ext, none-any, any-some}
+use Rattle.shelf.proofs.numbers.TableRows.{row-zero}
+use Rattle.shelf.proofs.numbers.InputLaws.{Passed, inputs-pass, fine-record}
+use Rattle.shelf.proofs.lent.LayoutLaws.{flags-are}
+use Rattle.shelf.proofs.lent.LeavesLaws.{leaves-here}
+
+-- ---- what the list says of an address, from the place found for it
+
+module _ (w : List ℕ) (g : Geometry) (a p : ℕ) (e : p ≡ lookup w g a) where
+  said-at : p < g .e → said w g a ≡ entryAt w g p
+  unfolding said
+  said-at h =
+      choose-true (ltb (lookup w g a) (g .e)) (entryAt w g (lookup w g a)) (entry a noneWord noneWord)
+      (lt-ltb (lookup w g a) (g .e) (subst (λ (k : ℕ). k < g .e) e h))
+      ∙ ap (λ (k : ℕ). entryAt w g k) (sym e)
+
+  said-off : g .e ≤ p → said w g a ≡ entry a noneWord noneWord
+  unfolding said
+  said-off h =
+      choose-false (ltb (lookup w g a) (g .e)) (entryAt w g (lookup w g a)) (entry a noneWord noneWord)
+      (le-ltb (lookup w g a) (g .e) (subst (λ (k : ℕ). g .e ≤ k) e h))
+
+  pub ori-there : p < g .e → (o : ℕ) → o ≡ oriAt w (g .h) p → o ≡ said w g a .ori
+  ori-there h o q = q ∙ sym (ap (λ (x : Entry). x .ori) (said-at h))
+
+  pub ori-off : g .e ≤ p → noneWord ≡ said w g a .ori
+  ori-off h = sym (ap (λ (x : Entry). x .ori) (said-off h))
+
+  pub latest-off : g .e ≤ p → noneWord ≡ latest w g a
+  unfolding latest choose
+  latest-off h = sym (ap (λ (x : Entry). choose (eqb (x .cur) noneWord) (x .ori) (x .cur)) (said-off h))
+
+  pub latest-cur : p < g .e → (c : ℕ) → c ≡ curAt w (g .h) p → c ≢ noneWord → c ≡ latest w g a
+  unfolding latest
+  latest-cur h c q n =
+      sym (ap (λ (x : Entry). choose (eqb (x .cur) noneWord) (x .ori) (x .cur)) (said-at h)
+      ∙ ap (λ (v : ℕ). choose (eqb v noneWord) (oriAt w (g .h) p) v) (sym q)
+      ∙ choose-false (eqb c noneWord) (oriAt w (g .h) p) c (ne-eqb c noneWord n))
+
+  pub latest-ori : p < g .e → (c o : ℕ) → c ≡ curAt w (g .h) p → c ≡ noneWord → o ≡ oriAt w (g .h) p → o ≡ latest w g a
+  unfolding latest
+  latest-ori h c o q n r =
+      sym (ap (λ (x : Entry). choose (eqb (x .cur) noneWord) (x .ori) (x .cur)) (said-at h)
+      ∙ ap (λ (v : ℕ). choose (eqb v noneWord) (oriAt w (g .h) p) v) (sym q)
+      ∙ choose-true (eqb c noneWord) (oriAt w (g .h) p) c (eq-eqb c noneWord n)
+      ∙ sym r)
+
+-- ---- a word as a record
+
+pub record-some : (v : ℕ) → v ≢ noneWord → recordAt v ≡ some v
+unfolding recordAt
+record-some v n = choose-false (eqb v noneWord) none (some v) (ne-eqb v noneWord n)
+
+pub record-none : (v : ℕ) → v ≡ noneWord → recordAt v ≡ none
+unfolding recordAt
+record-none v n = choose-true (eqb v noneWord) none (some v) (eq-eqb v noneWord n)
+
+-- ---- the block numbers of the originals
+
+module _ (g : Geometry) (l : List ℕ) (x i : ℕ) where
+  pub number-log : i < g .d → (v : ℕ) → v ≡ said (words l) g (addressOf g x i) .ori → v ≢ noneWord → (g .d + 2) * g .s + v ≡ originalPlace g l x i
+  unfolding originalPlace
+  number-log h v e n =
+      sym (choose-true (ltb i (g .d)) (orElse (oriBy g l x i) (λ r. arrayMembers g * g .s + r) (place (g .d) (g .s) x i)) (place (g .d) (g .s) x i) (lt-ltb i (g .d) h)
+      ∙ ap (λ (o : Option ℕ). orElse o (λ r. arrayMembers g * g .s + r) (place (g .d) (g .s) x i)) (ap recordAt (sym e) ∙ record-some v n))
+
+  pub number-array : (i < g .d → said (words l) g (addressOf g x i) .ori ≡ noneWord) → place (g .d) (g .s) x i ≡ originalPlace g l x i
+  unfolding originalPlace
+  number-array h =
+      cases (ltb i (g .d))
+      (λ t. sym (choose-true (ltb i (g .d)) (orElse (oriBy g l x i) (λ r. arrayMembers g * g .s + r) (place (g .d) (g .s) x i)) (place (g .d) (g .s) x i) t
+      ∙ ap (λ (o : Option ℕ). orElse o (λ r. arrayMembers g * g .s + r) (place (g .d) (g .s) x i)) (record-none _ (h (ltb-true i (g .d) t)))))
+      (λ t. sym (choose-false (ltb i (g .d)) (orElse (oriBy g l x i) (λ r. arrayMembers g * g .s + r) (place (g .d) (g .s) x i)) (place (g .d) (g .s) x i) t))
+
+-- ---- which originals are missing
+
+module _ (r : Shelf) (l : List ℕ) (R : ListReady r l) (x i : ℕ) where
+  pub missing-listed : i < r .geometry .d → (p o : ℕ) → p ≡ lookup (words l) (r .geometry) (addressOf (r .geometry) x i) → p < r .geometry .e
+      → o ≡ oriAt (words l) (r .geometry .h) p → eqb o noneWord ≡ missingBy r l x i
+  missing-listed h p o e q t =
+      let v = said (words l) (r .geometry) (addressOf (r .geometry) x i) .ori in
+      let is : o ≡ v = ori-there (words l) (r .geometry) (addressOf (r .geometry) x i) p e q o t in
+      let shown : listedBy (r .geometry) l x i ≡ true =
+      listed-found (r .geometry) l (r .next) (r .listed) (R .range) (R .valid) x i
+      ∙ lt-ltb (lookup (words l) (r .geometry) (addressOf (r .geometry) x i)) (r .geometry .e) (subst (λ (k : ℕ). k < r .geometry .e) e q) in
+      sym (choose-true (ltb i (r .geometry .d) && listedBy (r .geometry) l x i) (not (isSome (oriBy (r .geometry) l x i)))
+      (flagAt r (memberAt (r .geometry) x i)) (ap₂ _&&_ (lt-ltb i (r .geometry .d) h) shown)
+      ∙ lacking o (oriBy (r .geometry) l x i) (ap recordAt (sym is)))
+    where
+      lacking : (o : ℕ) (k : Option ℕ) → k ≡ recordAt o → not (isSome k) ≡ eqb o noneWord
+      lacking o k e =
+          cases (eqb o noneWord)
+          (λ t. ap (λ (z : Option ℕ). not (isSome z)) (e ∙ record-none o (eqb-true o noneWord t)) ∙ unfold isSome in sym t)
+          (λ t. ap (λ (z : Option ℕ). not (isSome z)) (e ∙ record-some o (eqb-false o noneWord t)) ∙ unfold isSome in sym t)
+
+  pub missing-else : (i < r .geometry .d → r .geometry .e ≤ lookup (words l) (r .geometry) (addressOf (r .geometry) x i))
+      → flagAt r (memberAt (r .geometry) x i) ≡ missingBy r l x i
+  missing-else h =
+      sym (choose-false (ltb i (r .geometry .d) && listedBy (r .geometry) l x i) (not (isSome (oriBy (r .geometry) l x i)))
+      (flagAt r (memberAt (r .geometry) x i))
+      (cases (ltb i (r .geometry .d))
+      (λ t. ap₂ _&&_ t (listed-found (r .geometry) l (r .next) (r .listed) (R .range) (R .valid) x i
+      ∙ le-ltb (lookup (words l) (r .geometry) (addressOf (r .geometry) x i)) (r .geometry .e) (h (ltb-true i (r .geometry .d) t))))
+      (λ t. ap (λ (z : Bool). z && listedBy (r .geometry) l x i) t)))
+
+-- ---- the other missing role, from a walk upwards
+
+-- no role below n but i is missing
+abbrev pub NoneBelow : (ℕ → Bool) → ℕ → ℕ → Type 0
+NoneBelow m i n = (k : ℕ) → k < n → (m k && not (eqb k i)) ≡ false
+
+module _ (g : Geometry) (m : ℕ → Bool) (i : ℕ) where
+  pub other-found : (n : ℕ) → n < g .d + 2 → NoneBelow m i n → m n ≡ true → n ≢ i → n ≡ otherMissing g m i
+  unfolding otherMissing
+  other-found n h below t u =
+      let f : ℕ → Bool = λ k. m k && not (eqb k i) in
+      let here : f n ≡ true = ap₂ (λ (a b : Bool). a && not b) t (ne-eqb n i u) in
+      let is : n ≡ first (g .d + 2) f = first-is (g .d + 2) f n (omega arith) (λ _. here) below in
+      is ∙ sym (choose-true (ltb (first (g .d + 2) f) (g .d + 2)) (first (g .d + 2) f) i (lt-ltb (first (g .d + 2) f) (g .d + 2) (subst (λ (k : ℕ). k < g .d + 2) is h)))
+
+  pub other-none : NoneBelow m i (g .d + 2) → i ≡ otherMissing g m i
+  unfolding otherMissing
+  other-none below =
+      let f : ℕ → Bool = λ k. m k && not (eqb k i) in
+      let is : g .d + 2 ≡ first (g .d + 2) f = first-is (g .d + 2) f (g .d + 2) (omega arith) (λ z. absurd (omega arith)) below in
+      sym (choose-false (ltb (first (g .d + 2) f) (g .d + 2)) (first (g .d + 2) f) i (le-ltb (first (g .d + 2) f) (g .d + 2) (subst (λ (k : ℕ). g .d + 2 ≤ k) is (omega arith))))
+
+pub below-zero : (m : ℕ → Bool) (i : ℕ) → NoneBelow m i 0
+below-zero m i k h = absurd (omega arith)
+
+pub below-self : (m : ℕ → Bool) (i n : ℕ) → NoneBelow m i n → n ≡ i → NoneBelow m i (n + 1)
+below-self m i n below e k h = elim (ℕ-discrete k n) [
+  | yes q ↦ ap (λ (b : Bool). m k && not b) (eq-eqb k i (q ∙ e)) ∙ last (m k)
+  | no q ↦ below k (omega arith)
+]
+  where
+    last : (a : Bool) → (a && false) ≡ false
+    last true = refl
+    last false = refl
+
+pub below-step : (m : ℕ → Bool) (i n : ℕ) → NoneBelow m i n → m n ≡ false → NoneBelow m i (n + 1)
+below-step m i n below e k h = elim (ℕ-discrete k n) [
+  | yes q ↦ ap (λ (a : Bool). a && not (eqb k i)) (ap m q ∙ e)
+  | no q ↦ below k (omega arith)
+]
+
+-- ---- bounds
+
+pub addresses-small : (g : Geometry) → InRange g → g .d * g .s ≤ 1048576
+addresses-small g Y = let m : g .d * g .s ≤ 16 * 65536 = mul-le-mul (Y .d-most) (Y .s-most) in omega arith
+
+pub address-low : (d s x : ℕ) → d ≤ 16 → s ≤ 65536 → x < s → x * d ≤ 1048576
+address-low d s x hd hs h =
+    let low : x ≤ 65536 = omega arith in
+    let m : x * d ≤ 65536 * 16 = mul-le-mul low hd in omega arith
+
+-- ---- row 4, as the code tries it
+
+module _ (g : Geometry) (a n : ℕ) where
+  pub bad-zero : n ≡ 0 → true ≡ badAddress g a n
+  bad-zero e = sym (ap (λ (t : Bool). t || ltb (g .d * g .s) (a + n)) (eq-eqb n 0 e))
+
+  pub bad-many : g .d * g .s < n → true ≡ badAddress g a n
+  bad-many h = sym (ap (λ (t : Bool). eqb n 0 || t) (lt-ltb (g .d * g .s) (a + n) (omega (arith, h))) ∙ or-true (eqb n 0))
+
+  pub bad-rest : n ≢ 0 → n ≤ g .d * g .s → ltb (g .d * g .s - n) a ≡ badAddress g a n
+  bad-rest z h =
+      sym (ap (λ (t : Bool). t || ltb (g .d * g .s) (a + n)) (ne-eqb n 0 z)
+      ∙ same-bool (ltb (g .d * g .s) (a + n)) (ltb (g .d * g .s - n) a)
+      (λ t. let u = ltb-true (g .d * g .s) (a + n) t in lt-ltb (g .d * g .s - n) a (omega (arith, u, h)))
+      (λ t. let u = ltb-true (g .d * g .s - n) a t in lt-ltb (g .d * g .s) (a + n) (omega (arith, u, h))))
+
+-- ---- row 14, as the code tries it
+
+-- an address below d * s is in a stripe below s
+pub in-range-stripe : (d s a : ℕ) → 0 < d → a < d * s → a / d < s
+in-range-stripe d s a pos h = let c : d * s ≡ s * d = mul-comm d s in div-lt-iff-lt-mul pos .1 (omega arith)
+
+pub in-range-index : (d a : ℕ) → 0 < d → a % d < d
+in-range-index d a pos = mod-lt a pos
+
+-- of block j of a read from address a on
+abbrev pub withheldFrom : Shelf → List ℕ → ℕ → ℕ → Bool
+withheldFrom r l a j = withheld (r .geometry) (flagAt r) (listedBy (r .geometry) l) (stripeOf (r .geometry) (a + j)) (indexOf (r .geometry) (a + j))
+
+module _ (r : Shelf) (l : List ℕ) (R : ListReady r l) where
+  stale-is : (x : ℕ) → staleIn (words l) (r .geometry) x ≡ stale (r .geometry) (listedBy (r .geometry) l) x
+  unfolding staleIn
+  stale-is x =
+      any-ext (r .geometry .d) (listedIn (words l) (r .geometry) x) (listedBy (r .geometry) l x)
+      (λ i _. sym (listed-found (r .geometry) l (r .next) (r .listed) (R .range) (R .valid) x i))
+
+  module _ (x i : ℕ) where
+    pub held-log : flagAt r (r .geometry .d + 2) ≡ false → false ≡ withheld (r .geometry) (flagAt r) (listedBy (r .geometry) l) x i
+    held-log t = sym (ap (λ (u : Bool). u && (flagAt r (memberAt (r .geometry) x i) && stale (r .geometry) (listedBy (r .geometry) l) x)) t)
+
+    pub held-disk : (m : ℕ) → m ≡ memberAt (r .geometry) x i → flagAt r m ≡ false → false ≡ withheld (r .geometry) (flagAt r) (listedBy (r .geometry) l) x i
+    held-disk m e t =
+        sym (ap (λ (u : Bool). flagAt r (r .geometry .d + 2) && (u && stale (r .geometry) (listedBy (r .geometry) l) x)) (ap (flagAt r) (sym e) ∙ t)
+        ∙ and-false (flagAt r (r .geometry .d + 2)))
+
+    pub held-stale : (m : ℕ) → m ≡ memberAt (r .geometry) x i → flagAt r (r .geometry .d + 2) ≡ true → flagAt r m ≡ true → (u : Bool)
+        → u ≡ staleIn (words l) (r .geometry) x → u ≡ withheld (r .geometry) (flagAt r) (listedBy (r .geometry) l) x i
+    held-stale m e t f u q =
+        q ∙ stale-is x
+        ∙ sym (ap₂ (λ (v w : Bool). v && (w && stale (r .geometry) (listedBy (r .geometry) l) x)) t (ap (flagAt r) (sym e) ∙ f))
+
+  pub none-withheld : (a n : ℕ) → flagAt r (r .geometry .d + 2) ≡ false → readWithheld (r .geometry) (flagAt r) (listedBy (r .geometry) l) a n ≡ false
+  none-withheld a n t = none-any n (withheldFrom r l a) (λ j _. sym (held-log ((a + j) / r .geometry .d) ((a + j) % r .geometry .d) t))
+
+-- a test as it came out
+pub as-tested : (t u v : Bool) → t ≡ u → t ≡ v → u ≡ v
+as-tested t u v e q = sym e ∙ q
+
+-- the walk of read_withheld, downwards
+module _ (r : Shelf) (l : List ℕ) (a j : ℕ) (t : Bool) (e : t ≡ withheldFrom r l a (j - 1)) (pos : 0 < j) where
+  pub one-withheld : t ≡ true → any j (withheldFrom r l a) ≡ true
+  one-withheld q = any-some j (withheldFrom r l a) (j - 1) (omega (arith, pos)) (sym e ∙ q)
+
+  pub this-not-withheld : t ≡ false → any (j - 1) (withheldFrom r l a) ≡ any j (withheldFrom r l a)
+  this-not-withheld q = any-turn j (j - 1) (withheldFrom r l a) (omega (arith, pos)) (sym e ∙ q)
+
+-- ---- the rows of a read, and what an accepted one gives its functions
+
+pub address-within : (g : Geometry) (a n : ℕ) → badAddress g a n ≡ false → a + n ≤ g .d * g .s
+address-within g a n e = ltb-false (g .d * g .s) (a + n) (or-right (eqb n 0) (ltb (g .d * g .s) (a + n)) e)
+
+pub count-small : (g : Geometry) → InRange g → (a n : ℕ) → a + n ≤ g .d * g .s → n * g .b ≤ 4294967296
+count-small g Y a n h =
+    let all = addresses-small g Y in
+    let low : n ≤ 1048576 = omega (arith, all, h) in
+    let m : n * g .b ≤ 1048576 * 4096 = mul-le-mul low (Y .b-most) in omega arith
+
+pub list-ready : (r : Shelf) (na nl : ℕ) (l : List ℕ) → Passed r na nl l → ListReady r l
+list-ready r na nl l P =
+    record {
+      range = P .range;
+      room = ltb-false (r .geometry .l) (r .next) (fine-record r (P .fine) .room);
+      list = P .list;
+      valid = P .valid;
+    }
+
+pub read-ready : (r : Shelf) (a n l : List ℕ) (at count len code : ℕ) → code ≡ numberOf r (length a) (length n) l (read at count len) → code ≡ 0
+    → Ready (lent r a n l) × ((at + count ≤ r .geometry .d * r .geometry .s) × (len ≡ count * r .geometry .b))
+unfolding numberOf triesList codeOf
+read-ready r a n l at count len code e z =
+    let P = inputs-pass r (length a) (length n) l _ (sym e ∙ z) in
+    let four = row-zero 4 (badAddress (r .geometry) at count) _ (λ z. omega arith) (P .1) in
+    let five = row-zero 5 (badData (r .geometry) count len) _ (λ z. omega arith) (four .1) in (
+      record { listing = list-ready r (length a) (length n) l (P .0); array = P .0 .array; log = P .0 .log },
+      (address-within (r .geometry) at count (four .0), eqb-true len (count * r .geometry .b) (not-off (eqb len (count * r .geometry .b)) (five .0))),
+    )
+
+pub read-answered : (r : Shelf) (a n l : List ℕ) → length (r .failed) ≡ 19 → (at count len code : ℕ)
+    → code ≡ numberOf r (length a) (length n) l (read at count len) → code ≡ 0 → Answered (lent r a n l) (read at count len) 0 (lent r a n l)
+unfolding numberOf work triesList stateOf
+read-answered r a n l len19 at count len code e z =
+    let P = inputs-pass r (length a) (length n) l _ (sym e ∙ z) .0 in
+    record {
+      number = sym z ∙ e;
+      done = λ _. leaves-here r a n l P (r .mode) (r .failed) (flagAt r) (flags-are (flag (r .failed)) (r .failed) len19 (λ i _. refl));
+      unaltered = λ _ _. refl;
+      refused = λ z. absurd (z refl);
+    }

@@ -1,0 +1,72 @@
+-- `shelf::read::other_missing` meets its contract. The loop's invariant: no role passed is missing, but for i.
+-- Assumes nothing.
+use mathlib.Core.Logic.{⊎-elim}
+use mathlib.Core.Path.{_≡_, sym, _∙_, subst}
+use Prim.Native.Nat.{ℕ, _+_, _-_, _≤_, zero-le}
+use Rattle.shelf.proofs.calls.ServedLaws.{NoneBelow, below-zero, below-self, below-step, other-found, other-none}
+use Rattle.shelf.specs.Reading.{missingBy}
+use borrow.Author.Needs.{needs}
+use native.Mathlib.Omega.{arith}
+use Rattle.shelf.proofs.read.other_missing.Statement.{statement}
+use Rattle.shelf.proofs.read.other_missing.Tie as tie
+
+abbrev Inv-loop : tie.InvT-loop
+Inv-loop shelf list x i roles n₀ n = (n ≤ roles) × NoneBelow (missingBy shelf list x) i n
+
+abbrev μ-loop : tie.MeasureT-loop
+μ-loop shelf list x i roles n₀ n = roles - n
+
+add-roles : tie.Need-add-roles Inv-loop μ-loop
+add-roles c = search needs
+
+loop-holds : tie.Need-loop-holds Inv-loop μ-loop
+loop-holds c =
+    let a = c .before .before .before .args in
+    (zero-le, below-zero (missingBy (a .shelf) (a .list .now) (a .x)) (a .i))
+
+is-missing-requires : tie.Need-is-missing-requires Inv-loop μ-loop
+is-missing-requires c κs = search needs
+
+returns : tie.Need-returns Inv-loop μ-loop
+returns c =
+    let a = c .before .before .before .before .before .before .before .before .args in
+    let at-loop = c .before .before .before .before .loop in
+    other-found (a .shelf .geometry) (missingBy (a .shelf) (a .list .now) (a .x)) (a .i) (at-loop .n) (omega arith) (at-loop .inv .1) (sym (c .before .is-missing .ensures) ∙ c .if2 .taken) (c .before .before .if1 .taken)
+
+add-n : tie.Need-add-n Inv-loop μ-loop
+add-n c = search needs
+
+loop-less : tie.Need-loop-less Inv-loop μ-loop
+loop-less c = search needs
+
+loop-again : tie.Need-loop-again Inv-loop μ-loop
+loop-again c =
+    let a = c .before .before .before .before .before .before .args in
+    let at-loop = c .before .before .loop in (
+      omega arith,
+      ⊎-elim
+          (λ w. below-step (missingBy (a .shelf) (a .list .now) (a .x)) (a .i) (at-loop .n) (at-loop .inv .1) (sym (w .1 .ensures) ∙ w .2 .left))
+          (λ w. below-self (missingBy (a .shelf) (a .list .now) (a .x)) (a .i) (at-loop .n) (at-loop .inv .1) (w .left)) (c .if1 .came),
+    )
+
+returns-2 : tie.Need-returns-2 Inv-loop μ-loop
+returns-2 c =
+    let a = c .before .before .before .before .before .args in
+    let at-loop = c .before .loop in
+    let done : at-loop .n ≡ a .shelf .geometry .d + 2 = omega arith in
+    other-none (a .shelf .geometry) (missingBy (a .shelf) (a .list .now) (a .x)) (a .i) (subst (λ (k : ℕ). NoneBelow (missingBy (a .shelf) (a .list .now) (a .x)) (a .i) k) done (at-loop .inv .1))
+
+pub other-missing-spec : {M : Type 1} → statement M
+other-missing-spec =
+    tie.close
+    (tie.spec
+    Inv-loop
+    μ-loop
+    add-roles
+    loop-holds
+    is-missing-requires
+    returns
+    add-n
+    loop-less
+    loop-again
+    returns-2)
