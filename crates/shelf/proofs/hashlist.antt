@@ -1,4 +1,5 @@
 pub mod ListMeaning
+pub mod RewriteLaws
 pub mod ListMarks
 pub mod NumberThree
 pub mod ChainLaws

@@ -1,5 +1,6 @@
 -- What each call does to a shelf, where no row of `Status.antt` or `Lent.antt` refuses it. Tables run over stripes below s and data indices below d;
--- what they hold beyond is of no account. The stripe that a resync tells is `resyncStripe`; the buffer that a read fills stands in `Lent.antt`.
+-- what they hold beyond is of no account. The stripe that a resync makes is `resyncStripe`; which stripe it tells and the buffer that a read
+-- fills stand in `Lent.antt`.
 -- Assumes nothing.
 use mathlib.Core.Bool.{Bool, true, false, not, _&&_, _||_}
 use mathlib.Core.List.{List}

@@ -5,8 +5,8 @@ use mathlib.Core.Bool.{Bool, true, false, not, _&&_}
 use mathlib.Core.List.{List}
 use lib.Dec.{ltb, eqb}
 use Rattle.shelf.specs.declared.record.Geometry.{Geometry}
-use Rattle.shelf.specs.Counting.{choose, any}
-use Rattle.shelf.specs.HashList.{noneWord, addressAt, oriAt, curAt, lookup, listedIn, allListed, goodEntry, passes}
+use Rattle.shelf.specs.Counting.{choose}
+use Rattle.shelf.specs.HashList.{noneWord, addressAt, oriAt, curAt, lookup, allListed, goodEntry, passes}
 
 -- ---- a stripe is tested once for a lacking Ori
 
@@ -38,8 +38,3 @@ validLowest w g next listed = passes (goodLowest w g next) w g listed
 unfoldable pub lowerStale : List ℕ → Geometry → ℕ → ℕ → ℕ
 lowerStale w g p x =
     choose (ltb (addressAt w (g .h) p / g .d) x && eqb (lookup w g (addressAt w (g .h) p)) p) (addressAt w (g .h) p / g .d) x
-
--- place p is listed, and no block of its stripe with a lower index is
-unfoldable pub leads : List ℕ → Geometry → ℕ → Bool
-leads w g p =
-    eqb (lookup w g (addressAt w (g .h) p)) p && not (any (addressAt w (g .h) p % g .d) (listedIn w g (addressAt w (g .h) p / g .d)))

@@ -125,6 +125,11 @@ pub record Passing (w : List ℕ) (g : Geometry) : Type 0 where
   pub listed : ℕ
   pub passing : valid w g next listed ≡ true
 
+-- the list passes number 3 with some next free record and n listed blocks
+pub record Lists (w : List ℕ) (g : Geometry) (n : ℕ) : Type 0 where
+  pub next : ℕ
+  pub passing : valid w g next n ≡ true
+
 -- ---- what a list stands for
 
 -- a listed block: its address, and the log records of its original and of its latest value, or none

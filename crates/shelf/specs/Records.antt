@@ -5,8 +5,8 @@ use Prim.Native.Nat.{ℕ}
 use lib.Dec.{ltb}
 use lib.ListN.{set}
 use Rattle.shelf.specs.Status.{row, logSound}
-use Rattle.shelf.specs.Calls.{modeWithout, nextLeft, modeLeft}
-use Rattle.shelf.specs.Lent.{flagAt}
+use Rattle.shelf.specs.Calls.{modeWithout, nextLeft, modeLeft, arrayCleared}
+use Rattle.shelf.specs.Lent.{flagAt, flagsOf}
 use Rattle.shelf.specs.declared.record.Shelf.{Shelf}
 
 abbrev pub withMode : Shelf → ℕ → Shelf
@@ -28,6 +28,15 @@ withRenewed r j = record { geometry = r .geometry; mode = r .mode; next = r .nex
 abbrev pub withListed : Shelf → ℕ → Shelf
 withListed r n =
     record { geometry = r .geometry; mode = modeLeft n (r .mode); next = nextLeft n (r .next); listed = n; failed = r .failed }
+
+-- with the next free record and n blocks listed, as a logged stripe leaves them
+abbrev pub withLogged : Shelf → ℕ → ℕ → Shelf
+withLogged r next n = record { geometry = r .geometry; mode = r .mode; next = next; listed = n; failed = r .failed }
+
+-- with the flags of the array's members cleared
+abbrev pub withCleared : Shelf → Shelf
+withCleared r =
+    record { geometry = r .geometry; mode = r .mode; next = r .next; listed = r .listed; failed = flagsOf (arrayCleared (r .geometry) (flagAt r)) }
 
 -- no block is marked: of rows that do not look at marks
 abbrev pub unmarked : ℕ → ℕ → Bool

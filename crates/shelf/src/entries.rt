@@ -10,7 +10,7 @@ ghost use Rattle.shelf.specs.HashList.{Measures, Passing, entry, entries
 ghost use Rattle.shelf.specs.Rewriting.{putFront, encode, dropStripe, held, sink, sunk, keeps};
 
 // Puts an entry as entry i of a working slice of e entries.
-fn put_entry(x: &mut [u32], e: usize, i: usize, a: usize, o: usize, c: usize)
+pub fn put_entry(x: &mut [u32], e: usize, i: usize, a: usize, o: usize, c: usize)
     requires { ⌜ (i < e) × ((e ≤ 4096) × ((3 * e ≤ length (now x)) × ((a < 4294967296) × ((o < 4294967296) × (c < 4294967296))))) ⌝ }
     ensures { λ _. ⌜ held e 0 (now (x .exit)) ≡ set (held e 0 (now (x .entry))) i (entry a o c) ⌝ }
 {

@@ -4,28 +4,32 @@
 // Here stand the calls for C. Below them: `record` has the shelf record and its methods, `status` decides the number by which a call is
 // refused, before anything is stored. The list of the blocks whose parity is put off is bytes: `words` reads and writes them as 32-bit
 // words, `list` looks a block up and tests a list for number 3, `entries` gathers a list's entries and writes a list anew, `alter`
-// drops and replaces the entries of a stripe, `stale` tells which stripes have a listed block. The contracts cite `specs/`:
-// `Lent.antt` has the promise of every call, `Calls.antt` what each does.
+// drops and replaces the entries of a stripe, `stale` tells which stripes have a listed block. The calls that move blocks have a file
+// each, `read`, `write`, `resync`, `rebuild`; a write's stripe goes by its `share` of the caller's data, and one that is logged by a
+// `plan`, the stripe's `row` of the list, `log` and `copies`. The contracts cite `specs/`: `Lent.antt` has the promise of every call,
+// `Calls.antt` what each does.
 mod alter;
+mod copies;
 mod entries;
 mod list;
+mod log;
+mod plan;
 mod read;
+mod rebuild;
 pub mod record;
+mod resync;
+mod row;
+mod share;
 mod stale;
 mod status;
 mod words;
+mod write;
 
 ghost use mathlib.Core.Logic.{_≢_};
 ghost use mathlib.Core.Path.{_≡_};
 ghost use lib.ListN.{length, replicate};
-ghost use Rattle.stripe.specs.Places.{place, parityMade};
-ghost use Rattle.shelf.specs.Members.{InRange};
-ghost use Rattle.shelf.specs.Status.{start, fail, read, resync, newLog, fullResync};
-ghost use Rattle.shelf.specs.Lent.{lent, formatCode, formatLeaves, freshRecord, arrayLength, stateOf, readBuffer, toldStripe, Answered};
-ghost use Rattle.shelf.specs.Words.{words};
-ghost use Rattle.shelf.specs.HashList.{Measures, Passing, entries};
-ghost use Rattle.shelf.specs.Rewriting.{Rewritten, dropStripe};
-ghost use Prim.Native.Nat.{_<_};
+ghost use Rattle.shelf.specs.Status.{start, fail, write, read, resync, rebuild, newLog, fullResync};
+ghost use Rattle.shelf.specs.Lent.{lent, formatCode, formatLeaves, freshRecord, stateOf, readBuffer, toldStripe, Answered};
 
 // What a call hands back: its number, 0 where it was accepted, and the record after it.
 #[repr(C)]
@@ -69,13 +73,8 @@ pub extern "C" fn shelf_format(
 
 // Goes from mode 0 to mode 1. Answers 0; or the first of 1, 2, 3, 7, 8, 9 that applies. Stores no byte.
 #[no_mangle]
-pub extern "C" fn shelf_start(
-    shelf: record::Shelf,
-    array: &mut [u8],
-    log: &mut [u8],
-    list: &mut [u8],
-) -> Answer
-    ensures { λ a. ⌜ Answered (lent shelf (now (array .entry)) (now (log .entry)) (now (list .entry))) start (a .code) (lent (a .shelf) (now (array .exit)) (now (log .exit)) (now (list .exit))) ⌝ }
+pub extern "C" fn shelf_start(shelf: record::Shelf, array: &[u8], log: &[u8], list: &[u8]) -> Answer
+    ensures { λ a. ⌜ Answered (lent shelf (now (array .entry)) (now (log .entry)) (now (list .entry))) start (a .code) (lent (a .shelf) (now (array .entry)) (now (log .entry)) (now (list .entry))) ⌝ }
 {
     let code = status::start_code(shelf, array.len(), log.len(), list);
     if code != 0 {
@@ -92,11 +91,11 @@ pub extern "C" fn shelf_start(
 pub extern "C" fn shelf_fail(
     shelf: record::Shelf,
     member: usize,
-    array: &mut [u8],
-    log: &mut [u8],
-    list: &mut [u8],
+    array: &[u8],
+    log: &[u8],
+    list: &[u8],
 ) -> Answer
-    ensures { λ a. ⌜ Answered (lent shelf (now (array .entry)) (now (log .entry)) (now (list .entry))) (fail member) (a .code) (lent (a .shelf) (now (array .exit)) (now (log .exit)) (now (list .exit))) ⌝ }
+    ensures { λ a. ⌜ Answered (lent shelf (now (array .entry)) (now (log .entry)) (now (list .entry))) (fail member) (a .code) (lent (a .shelf) (now (array .entry)) (now (log .entry)) (now (list .entry))) ⌝ }
 {
     let code = status::fail_code(shelf, member, array.len(), log.len(), list);
     if code != 0 {
@@ -108,8 +107,32 @@ pub extern "C" fn shelf_fail(
     }
 }
 
-// Reads count blocks from an address on into out, which has as many bytes. Answers 0; or the first of 1, 2, 3, 4, 5, 14 that applies, and
-// then out stays as it was. Stores no byte of the shelf.
+// Writes count blocks from an address on, out of source, of count times b bytes. Answers 0; or the first of 1, 2, 3, 4, 5, 8 that
+// applies, and then stores nothing.
+#[no_mangle]
+pub extern "C" fn shelf_write(
+    shelf: record::Shelf,
+    address: usize,
+    count: usize,
+    source: &[u8],
+    array: &mut [u8],
+    log: &mut [u8],
+    list: &mut [u8],
+) -> Answer
+    ensures { λ a. ⌜ Answered (lent shelf (now (array .entry)) (now (log .entry)) (now (list .entry))) (write address count (now (source .entry))) (a .code) (lent (a .shelf) (now (array .exit)) (now (log .exit)) (now (list .exit))) ⌝ }
+{
+    let code = status::write_code(shelf, address, count, source, array.len(), log.len(), list);
+    if code != 0 {
+        return Answer { code, shelf };
+    }
+    Answer {
+        code: 0,
+        shelf: write::write_blocks(shelf, address, count, source, array, log, list),
+    }
+}
+
+// Reads count blocks from an address on into out, of count times b bytes. Answers 0; or the first of 1, 2, 3, 4, 5, 14 that applies,
+// and then out stays as it was. Stores no byte of the shelf.
 #[no_mangle]
 pub extern "C" fn shelf_read(
     shelf: record::Shelf,
@@ -123,7 +146,7 @@ pub extern "C" fn shelf_read(
     ensures { λ a. ⌜ Answered (lent shelf (now (array .entry)) (now (log .entry)) (now (list .entry))) (read address count (length (now (out .entry)))) (a .code) (lent (a .shelf) (now (array .entry)) (now (log .entry)) (now (list .entry))) × ((a .code ≡ 0 → now (out .exit) ≡ readBuffer (shelf .geometry) (stateOf (lent shelf (now (array .entry)) (now (log .entry)) (now (list .entry)))) address count) × (a .code ≢ 0 → now (out .exit) ≡ now (out .entry))) ⌝ }
 {
     let g = shelf.geometry;
-    let code = status::read_code(
+    let number = status::read_code(
         shelf,
         address,
         count,
@@ -132,10 +155,14 @@ pub extern "C" fn shelf_read(
         log.len(),
         list,
     );
-    if code != 0 {
-        return Answer { code, shelf };
+    if number != 0 {
+        return Answer {
+            code: number,
+            shelf,
+        };
     }
     let mut work = [0u8; 4096];
+    let mut products = [0u8; 256];
     read::read_blocks(
         shelf,
         address,
@@ -145,6 +172,7 @@ pub extern "C" fn shelf_read(
         log,
         list,
         &mut work[..g.b],
+        &mut products,
     );
     Answer { code: 0, shelf }
 }
@@ -153,11 +181,11 @@ pub extern "C" fn shelf_read(
 #[no_mangle]
 pub extern "C" fn shelf_new_log(
     shelf: record::Shelf,
-    array: &mut [u8],
-    log: &mut [u8],
-    list: &mut [u8],
+    array: &[u8],
+    log: &[u8],
+    list: &[u8],
 ) -> Answer
-    ensures { λ a. ⌜ Answered (lent shelf (now (array .entry)) (now (log .entry)) (now (list .entry))) newLog (a .code) (lent (a .shelf) (now (array .exit)) (now (log .exit)) (now (list .exit))) ⌝ }
+    ensures { λ a. ⌜ Answered (lent shelf (now (array .entry)) (now (log .entry)) (now (list .entry))) newLog (a .code) (lent (a .shelf) (now (array .entry)) (now (log .entry)) (now (list .entry))) ⌝ }
 {
     let g = shelf.geometry;
     let code = status::new_log_code(shelf, array.len(), log.len(), list);
@@ -166,7 +194,7 @@ pub extern "C" fn shelf_new_log(
     }
     Answer {
         code: 0,
-        shelf: shelf.renew(g.d + 2),
+        shelf: shelf.renew(g.log_member()),
     }
 }
 
@@ -199,12 +227,35 @@ pub extern "C" fn shelf_resync(
             shelf: shelf.in_mode(0),
         };
     }
-    let n = make_stripe(array, list, g, t);
+    let n = resync::make_stripe(array, list, g, t);
     let entered = shelf.in_mode(2);
     Resynced {
         code: 0,
         stripe: t,
         shelf: entered.drop_to(n),
+    }
+}
+
+// Fills every failed data disk with what a read gives and clears the array's flags. If P or Q had failed, both are made afresh for every
+// stripe, the list is emptied and the mode is 0. Answers 0; or the first of 1, 2, 3, 12, 14 that applies, and then stores nothing.
+#[no_mangle]
+pub extern "C" fn shelf_rebuild(
+    shelf: record::Shelf,
+    array: &mut [u8],
+    log: &[u8],
+    list: &mut [u8],
+) -> Answer
+    ensures { λ a. ⌜ Answered (lent shelf (now (array .entry)) (now (log .entry)) (now (list .entry))) rebuild (a .code) (lent (a .shelf) (now (array .exit)) (now (log .entry)) (now (list .exit))) ⌝ }
+{
+    let code = status::rebuild_code(shelf, array.len(), log.len(), list);
+    if code != 0 {
+        return Answer { code, shelf };
+    }
+    let parity = rebuild::parity_failed(shelf);
+    rebuild::rebuild_array(shelf, parity, array, log, list);
+    Answer {
+        code: 0,
+        shelf: rebuild::settle(shelf, parity, list),
     }
 }
 
@@ -231,16 +282,6 @@ pub extern "C" fn shelf_full_resync(
         code: 0,
         shelf: entered.drop_to(0),
     }
-}
-
-// Makes P and Q of stripe t of the data that stand in the array, and drops its entries from a list that passes number 3. Answers how
-// many entries are left.
-fn make_stripe(array: &mut [u8], list: &mut [u8], g: record::Geometry, t: usize) -> usize
-    requires { ⌜ InRange g × ((t < g .s) × ((length (now array) ≡ arrayLength g) × (Measures g (now list) × Passing (words (now list)) g))) ⌝ }
-    ensures { λ n. ⌜ (now (array .exit) ≡ parityMade (place (g .d) (g .s) t) (g .d) (g .b) (now (array .entry))) × Rewritten g (dropStripe (g .d) t (entries (words (now (list .entry))) g)) (now (list .exit)) n ⌝ }
-{
-    stripe::parity::make_parity(array, g.d, g.s, t, g.b);
-    alter::drop_stripe(list, g, t)
 }
 
 // The record of a fresh shelf.

@@ -3,8 +3,10 @@
 ghost use mathlib.Core.Path.{_≡_};
 ghost use Prim.Native.Nat.{_≤_, _<_};
 ghost use Rattle.shelf.specs.Counting.{count, any};
+ghost use Rattle.shelf.specs.Members.{arrayMembers, logMember, allMembers};
+ghost use Rattle.shelf.specs.Status.{arrayFailed, logFailed};
 ghost use Rattle.shelf.specs.Lent.{flagAt, flagFrom};
-ghost use Rattle.shelf.specs.Records.{withMode, withFailed, withRenewed, withListed};
+ghost use Rattle.shelf.specs.Records.{withMode, withFailed, withRenewed, withListed, withLogged, withCleared};
 
 // The measures of a shelf, by the customer's letters: d data disks (2 to 16), s stripes (1 to 65,536), blocks of b bytes
 // (1 to 4,096), a log of l records (1 to 65,536), a list of h hash slots (1 to 256) and e places (1 to 4,096).
@@ -27,6 +29,32 @@ pub struct Shelf {
     pub next: usize,
     pub listed: usize,
     pub failed: [bool; 19],
+}
+
+impl Geometry {
+    // How many members the array has: the data disks, P and Q.
+    pub fn array_members(self) -> usize
+        requires { ⌜ self .d ≤ 16 ⌝ }
+        ensures { λ r. ⌜ r ≡ arrayMembers self ⌝ }
+    {
+        self.d + 2
+    }
+
+    // The log's number among the members.
+    pub fn log_member(self) -> usize
+        requires { ⌜ self .d ≤ 16 ⌝ }
+        ensures { λ r. ⌜ r ≡ logMember self ⌝ }
+    {
+        self.d + 2
+    }
+
+    // How many members there are in all, the log included.
+    pub fn all_members(self) -> usize
+        requires { ⌜ self .d ≤ 16 ⌝ }
+        ensures { λ r. ⌜ r ≡ allMembers self ⌝ }
+    {
+        self.d + 3
+    }
 }
 
 impl Shelf {
@@ -73,6 +101,24 @@ impl Shelf {
         failed[j]
     }
 
+    // Whether a member of the array has failed.
+    pub fn array_failed(self) -> bool
+        requires { ⌜ self .geometry .d ≤ 16 ⌝ }
+        ensures { λ r. ⌜ r ≡ arrayFailed (self .geometry) (flagAt self) ⌝ }
+    {
+        let g = self.geometry;
+        self.any_failed(0, g.array_members())
+    }
+
+    // Whether the log has failed.
+    pub fn log_failed(self) -> bool
+        requires { ⌜ self .geometry .d ≤ 16 ⌝ }
+        ensures { λ r. ⌜ r ≡ logFailed (self .geometry) (flagAt self) ⌝ }
+    {
+        let g = self.geometry;
+        self.has_failed(g.log_member())
+    }
+
     // The record in another mode.
     pub fn in_mode(mut self, mode: usize) -> Shelf
         ensures { λ r. ⌜ r ≡ withMode self mode ⌝ }
@@ -93,8 +139,9 @@ impl Shelf {
         requires { ⌜ (self .geometry .d ≤ 16) × (j < 19) ⌝ }
         ensures { λ r. ⌜ r ≡ withFailed self j ⌝ }
     {
+        let g = self.geometry;
         self.failed[j] = true;
-        if j == self.geometry.d + 2 {
+        if j == g.log_member() {
             if self.mode == 1 {
                 self.mode = if self.listed == 0 { 0 } else { 2 };
             }
@@ -111,6 +158,23 @@ impl Shelf {
         self
     }
 
+    // The record with the flags of the array's members cleared.
+    pub fn clear_array(mut self) -> Shelf
+        requires { ⌜ self .geometry .d ≤ 16 ⌝ }
+        ensures { λ r. ⌜ r ≡ withCleared self ⌝ }
+    {
+        let g = self.geometry;
+        let members = g.array_members();
+        let mut failed = self.failed;
+        let mut i: usize = 0;
+        while i < members {
+            failed[i] = false;
+            i += 1;
+        }
+        self.failed = failed;
+        self
+    }
+
     // The record after entries were dropped and n are left. Where none is, all log records are free again and mode 2 ends.
     pub fn drop_to(mut self, n: usize) -> Shelf
         ensures { λ r. ⌜ r ≡ withListed self n ⌝ }
@@ -122,6 +186,15 @@ impl Shelf {
                 self.mode = 0;
             }
         }
+        self
+    }
+
+    // The record after a stripe was logged: its next free log record, and n blocks listed.
+    pub fn logged_to(mut self, next: usize, n: usize) -> Shelf
+        ensures { λ r. ⌜ r ≡ withLogged self next n ⌝ }
+    {
+        self.next = next;
+        self.listed = n;
         self
     }
 }

@@ -1,5 +1,6 @@
 // The numbers by which calls are refused, decided before anything is stored: each function answers what the definition of the same
-// rows in `specs/Status.antt`, `specs/Lent.antt` or, for new log, `specs/Records.antt` says.
+// rows in `specs/Status.antt` or `specs/Lent.antt` says, or the one that stands for it in `specs/Records.antt` (new log) or
+// `specs/Rebuilding.antt` (row 14 of one stripe).
 use super::list;
 use super::record;
 use super::stale;
@@ -7,10 +8,11 @@ ghost use mathlib.Core.Bool.{_&&_, _||_, true};
 ghost use mathlib.Core.Path.{_≡_};
 ghost use Prim.Native.Nat.{_+_, _*_, _≤_, _<_};
 ghost use Rattle.shelf.specs.Members.{InRange};
-ghost use Rattle.shelf.specs.Status.{codeOf, start, fail, read, resync, newLog, fullResync, row, logSound, badAddress, readWithheld, withheld};
+ghost use Rattle.shelf.specs.Status.{codeOf, start, fail, write, read, resync, rebuild, newLog, fullResync, row, logFailed, logSound, badAddress, readWithheld, dataWithheld, withheld};
 ghost use Rattle.shelf.specs.Lent.{flagAt, listedBy, outside, badMeasures, badRecord, badLengths, inputRows, numberOf, formatCode};
 ghost use Rattle.shelf.specs.Records.{unmarked, newLogRows};
 ghost use Rattle.shelf.specs.Reading.{ListReady};
+ghost use Rattle.shelf.specs.Rebuilding.{dataFailedAt, withheldAt};
 
 // What format answers, for buffers of these lengths.
 pub fn format_code(g: record::Geometry, array: usize, log: usize, list: usize) -> usize
@@ -29,7 +31,7 @@ pub fn format_code(g: record::Geometry, array: usize, log: usize, list: usize) -
 pub fn start_code(shelf: record::Shelf, array: usize, log: usize, list: &[u8]) -> usize
     ensures { λ n. ⌜ n ≡ numberOf shelf array log (now (list .entry)) start ⌝ }
 {
-    let code = input_code(shelf, array, log, list);
+    let code = input_code(shelf, array, log, list, true);
     if code != 0 {
         return code;
     }
@@ -40,11 +42,30 @@ pub fn start_code(shelf: record::Shelf, array: usize, log: usize, list: &[u8]) -
 pub fn fail_code(shelf: record::Shelf, j: usize, array: usize, log: usize, list: &[u8]) -> usize
     ensures { λ n. ⌜ n ≡ numberOf shelf array log (now (list .entry)) (fail j) ⌝ }
 {
-    let code = input_code(shelf, array, log, list);
+    let code = input_code(shelf, array, log, list, true);
     if code != 0 {
         return code;
     }
     fail_rows(shelf, j)
+}
+
+// What a write of n blocks from address a on out of source answers, for an array and a log of these lengths.
+pub fn write_code(
+    shelf: record::Shelf,
+    a: usize,
+    n: usize,
+    source: &[u8],
+    array: usize,
+    log: usize,
+    list: &[u8],
+) -> usize
+    ensures { λ c. ⌜ c ≡ numberOf shelf array log (now (list .entry)) (write a n (now (source .entry))) ⌝ }
+{
+    let code = input_code(shelf, array, log, list, true);
+    if code != 0 {
+        return code;
+    }
+    write_rows(shelf, a, n, source)
 }
 
 // What a read of n blocks from address a on into len bytes answers, for an array and a log of these lengths.
@@ -59,7 +80,7 @@ pub fn read_code(
 ) -> usize
     ensures { λ c. ⌜ c ≡ numberOf shelf array log (now (list .entry)) (read a n len) ⌝ }
 {
-    let code = input_code(shelf, array, log, list);
+    let code = input_code(shelf, array, log, list, true);
     if code != 0 {
         return code;
     }
@@ -70,7 +91,7 @@ pub fn read_code(
 pub fn new_log_code(shelf: record::Shelf, array: usize, log: usize, list: &[u8]) -> usize
     ensures { λ n. ⌜ n ≡ numberOf shelf array log (now (list .entry)) newLog ⌝ }
 {
-    let code = input_code(shelf, array, log, list);
+    let code = input_code(shelf, array, log, list, true);
     if code != 0 {
         return code;
     }
@@ -81,33 +102,38 @@ pub fn new_log_code(shelf: record::Shelf, array: usize, log: usize, list: &[u8])
 pub fn resync_code(shelf: record::Shelf, array: usize, log: usize, list: &[u8]) -> usize
     ensures { λ n. ⌜ n ≡ numberOf shelf array log (now (list .entry)) resync ⌝ }
 {
-    let code = input_code(shelf, array, log, list);
+    let code = input_code(shelf, array, log, list, true);
     if code != 0 {
         return code;
     }
     resync_rows(shelf)
 }
 
+// What rebuild answers, for an array and a log of these lengths.
+pub fn rebuild_code(shelf: record::Shelf, array: usize, log: usize, list: &[u8]) -> usize
+    ensures { λ n. ⌜ n ≡ numberOf shelf array log (now (list .entry)) rebuild ⌝ }
+{
+    let code = input_code(shelf, array, log, list, true);
+    if code != 0 {
+        return code;
+    }
+    rebuild_rows(shelf, list)
+}
+
 // What full resync answers, for an array and a log of these lengths. The list may be lost: of its bytes only the number is looked at.
 pub fn full_resync_code(shelf: record::Shelf, array: usize, log: usize, list: &[u8]) -> usize
     ensures { λ n. ⌜ n ≡ numberOf shelf array log (now (list .entry)) fullResync ⌝ }
 {
-    let g = shelf.geometry;
-    if bad_measures(g) {
-        return 1;
-    }
-    if bad_record(shelf) {
-        return 1;
-    }
-    if bad_lengths(g, array, log, list.len()) {
-        return 2;
+    let code = input_code(shelf, array, log, list, false);
+    if code != 0 {
+        return code;
     }
     full_resync_rows(shelf)
 }
 
-// Rows 1 to 3, for an array and a log of these lengths: the number of the first that applies, or 0.
-fn input_code(shelf: record::Shelf, array: usize, log: usize, list: &[u8]) -> usize
-    ensures { λ n. ⌜ n ≡ inputRows shelf array log (now (list .entry)) true 0 ⌝ }
+// Rows 1 to 3, row 3 where it is asked for, for an array and a log of these lengths: the number of the first that applies, or 0.
+fn input_code(shelf: record::Shelf, array: usize, log: usize, list: &[u8], three: bool) -> usize
+    ensures { λ n. ⌜ n ≡ inputRows shelf array log (now (list .entry)) three 0 ⌝ }
 {
     let g = shelf.geometry;
     if bad_measures(g) {
@@ -119,8 +145,10 @@ fn input_code(shelf: record::Shelf, array: usize, log: usize, list: &[u8]) -> us
     if bad_lengths(g, array, log, list.len()) {
         return 2;
     }
-    if !list::check_list(list, g, shelf.next, shelf.listed) {
-        return 3;
+    if three {
+        if !list::check_list(list, g, shelf.next, shelf.listed) {
+            return 3;
+        }
     }
     0
 }
@@ -130,14 +158,13 @@ fn start_rows(shelf: record::Shelf) -> usize
     requires { ⌜ shelf .geometry .d ≤ 16 ⌝ }
     ensures { λ n. ⌜ n ≡ codeOf (shelf .geometry) (flagAt shelf) (shelf .mode) unmarked start ⌝ }
 {
-    let g = shelf.geometry;
     if shelf.mode != 0 {
         return 7;
     }
-    if shelf.any_failed(0, g.d + 2) {
+    if shelf.array_failed() {
         return 8;
     }
-    if shelf.has_failed(g.d + 2) {
+    if shelf.log_failed() {
         return 9;
     }
     0
@@ -149,16 +176,31 @@ fn fail_rows(shelf: record::Shelf, j: usize) -> usize
     ensures { λ n. ⌜ n ≡ codeOf (shelf .geometry) (flagAt shelf) (shelf .mode) unmarked (fail j) ⌝ }
 {
     let g = shelf.geometry;
-    if g.d + 2 < j {
+    if g.log_member() < j {
         return 6;
     }
     if shelf.has_failed(j) {
         return 10;
     }
-    if 2 <= shelf.count_failed(g.d + 3) {
+    if 2 <= shelf.count_failed(g.all_members()) {
         return 11;
     }
     0
+}
+
+// The rows of write: 4, 5, 8.
+fn write_rows(shelf: record::Shelf, a: usize, n: usize, source: &[u8]) -> usize
+    requires { ⌜ InRange (shelf .geometry) ⌝ }
+    ensures { λ c. ⌜ c ≡ codeOf (shelf .geometry) (flagAt shelf) (shelf .mode) unmarked (write a n (now (source .entry))) ⌝ }
+{
+    let g = shelf.geometry;
+    if bad_address(g, a, n) {
+        return 4;
+    }
+    if source.len() != n * g.b {
+        return 5;
+    }
+    full_resync_rows(shelf)
 }
 
 // The rows of read: 4, 5, 14. Row 14 is looked for only where the log has failed.
@@ -173,7 +215,7 @@ fn read_rows(shelf: record::Shelf, a: usize, n: usize, len: usize, list: &[u8]) 
     if len != n * g.b {
         return 5;
     }
-    if !shelf.has_failed(g.d + 2) {
+    if !shelf.log_failed() {
         return 0;
     }
     if read_withheld(shelf, a, n, list) {
@@ -219,7 +261,7 @@ fn withheld(shelf: record::Shelf, x: usize, i: usize, list: &[u8]) -> bool
     ensures { λ r. ⌜ r ≡ withheld (shelf .geometry) (flagAt shelf) (listedBy (shelf .geometry) (now (list .entry))) x i ⌝ }
 {
     let g = shelf.geometry;
-    if !shelf.has_failed(g.d + 2) {
+    if !shelf.log_failed() {
         return false;
     }
     if !shelf.has_failed(stripe::places::member(g.d, x, i)) {
@@ -233,8 +275,7 @@ fn new_log_rows(shelf: record::Shelf) -> usize
     requires { ⌜ shelf .geometry .d ≤ 16 ⌝ }
     ensures { λ n. ⌜ n ≡ newLogRows shelf ⌝ }
 {
-    let g = shelf.geometry;
-    if !shelf.has_failed(g.d + 2) {
+    if !shelf.log_failed() {
         return 12;
     }
     if 0 < shelf.listed {
@@ -259,11 +300,74 @@ fn full_resync_rows(shelf: record::Shelf) -> usize
     requires { ⌜ shelf .geometry .d ≤ 16 ⌝ }
     ensures { λ n. ⌜ n ≡ codeOf (shelf .geometry) (flagAt shelf) (shelf .mode) unmarked fullResync ⌝ }
 {
-    let g = shelf.geometry;
-    if shelf.any_failed(0, g.d + 2) {
+    if shelf.array_failed() {
         return 8;
     }
     0
+}
+
+// The rows of rebuild: 12, 14. Row 14 is looked for only where the log has failed and blocks are listed.
+fn rebuild_rows(shelf: record::Shelf, list: &[u8]) -> usize
+    requires { ⌜ ListReady shelf (now list) ⌝ }
+    ensures { λ n. ⌜ n ≡ codeOf (shelf .geometry) (flagAt shelf) (shelf .mode) (listedBy (shelf .geometry) (now (list .entry))) rebuild ⌝ }
+{
+    if !shelf.array_failed() {
+        return 12;
+    }
+    if !shelf.log_failed() {
+        return 0;
+    }
+    if shelf.listed == 0 {
+        return 0;
+    }
+    if data_withheld(shelf, list) {
+        return 14;
+    }
+    0
+}
+
+// Row 14 of a rebuild, where the log has failed.
+fn data_withheld(shelf: record::Shelf, list: &[u8]) -> bool
+    requires { ⌜ ListReady shelf (now list) × (logFailed (shelf .geometry) (flagAt shelf) ≡ true) ⌝ }
+    ensures { λ r. ⌜ r ≡ dataWithheld (shelf .geometry) (flagAt shelf) (listedBy (shelf .geometry) (now (list .entry))) ⌝ }
+{
+    let s = shelf.geometry.s;
+    let mut x = s;
+    while x > 0 {
+        x -= 1;
+        if withheld_at(shelf, x, list) {
+            return true;
+        }
+    }
+    false
+}
+
+// Row 14, of the data blocks of stripe x, where the log has failed.
+fn withheld_at(shelf: record::Shelf, x: usize, list: &[u8]) -> bool
+    requires { ⌜ ListReady shelf (now list) × ((logFailed (shelf .geometry) (flagAt shelf) ≡ true) × (x < shelf .geometry .s)) ⌝ }
+    ensures { λ r. ⌜ r ≡ withheldAt shelf (now (list .entry)) x ⌝ }
+{
+    let g = shelf.geometry;
+    if !data_failed_at(shelf, x) {
+        return false;
+    }
+    stale::is_stale(list, g, x)
+}
+
+// Whether a data disk of stripe x has failed.
+fn data_failed_at(shelf: record::Shelf, x: usize) -> bool
+    requires { ⌜ InRange (shelf .geometry) ⌝ }
+    ensures { λ r. ⌜ r ≡ dataFailedAt shelf x ⌝ }
+{
+    let d = shelf.geometry.d;
+    let mut i = d;
+    while i > 0 {
+        i -= 1;
+        if shelf.has_failed(stripe::places::member(d, x, i)) {
+            return true;
+        }
+    }
+    false
 }
 
 // Row 1, of the geometry: whether a measure is outside its range.
@@ -284,14 +388,14 @@ fn bad_record(shelf: record::Shelf) -> bool
     ensures { λ r. ⌜ r ≡ badRecord shelf ⌝ }
 {
     let g = shelf.geometry;
-    let accelerating = both(shelf.mode == 1, shelf.has_failed(g.d + 2));
+    let accelerating = both(shelf.mode == 1, shelf.log_failed());
     let transitional = either(both(shelf.mode == 2, shelf.listed == 0), accelerating);
     let normal = either(both(shelf.mode == 0, 0 < shelf.listed), transitional);
     let idle = either(both(shelf.listed == 0, 0 < shelf.next), normal);
     let places = either(g.e < shelf.listed, idle);
     let records = either(g.l < shelf.next, places);
     let flags = either(2 < shelf.count_failed(19), records);
-    let above = either(shelf.any_failed(g.d + 3, 19), flags);
+    let above = either(shelf.any_failed(g.all_members(), 19), flags);
     either(2 < shelf.mode, above)
 }
 
@@ -301,7 +405,7 @@ fn bad_lengths(g: record::Geometry, array: usize, log: usize, list: usize) -> bo
     ensures { λ r. ⌜ r ≡ badLengths g array log list ⌝ }
 {
     either(
-        array != (g.d + 2) * g.s * g.b,
+        array != g.array_members() * g.s * g.b,
         either(log != g.l * g.b, list != 4 * g.h + 16 * g.e),
     )
 }

@@ -14,11 +14,19 @@ pub fn word(l: &[u8], i: usize) -> usize
     ensures { λ r. ⌜ (r ≡ getD (words (now (l .entry))) i 0) × (r < 4294967296) ⌝ }
 {
     let a = 4 * i;
-    let b0 = l[a] as usize;
-    let b1 = l[a + 1] as usize;
-    let b2 = l[a + 2] as usize;
-    let b3 = l[a + 3] as usize;
+    let b0 = byte(l, a);
+    let b1 = byte(l, a + 1);
+    let b2 = byte(l, a + 2);
+    let b3 = byte(l, a + 3);
     b0 + b1 * 256 + b2 * 65536 + b3 * 16777216
+}
+
+// Byte i as a number.
+fn byte(l: &[u8], i: usize) -> usize
+    requires { ⌜ i < length (now l) ⌝ }
+    ensures { λ r. ⌜ (r ≡ getD (now (l .entry)) i 0) × (r < 256) ⌝ }
+{
+    l[i] as usize
 }
 
 // Puts v as word i.

@@ -8,11 +8,12 @@ use native.Mathlib.Nat.{le-refl}
 use native.Mathlib.Numerals.{add-one}
 use native.Mathlib.Omega.{arith}
 use lib.Bits.{bitXor}
-use lib.ListN.{length, getD, set, drop, length-set}
+use lib.ListN.{length, getD, set, drop, replicate, length-set, length-replicate, getD-replicate}
 use lib.Seq.{paste, paste-suc, getD-drop, getD-set-same, getD-set-other}
 use borrow.Author.Count.{below-more}
-use Rattle.field.specs.Field.{double, times}
-use Rattle.stripe.specs.Steps.{Starts, taken, plus, twicePlus, doubled, scaled, Outside, PutRow}
+use Rattle.field.specs.Field.{double, times, Multiples}
+use Rattle.field.proofs.Laws.{times-one-r, times-zero-l}
+use Rattle.stripe.specs.Steps.{Starts, taken, plus, twicePlus, doubled, scaled, constant, Products, Outside, PutRow}
 use Rattle.stripe.proofs.Lists.{Filled, filled-step}
 
 -- a turn of a copy from place `from` of s to place `to`
@@ -60,6 +61,24 @@ scaled-step c q₀ q j t h l u = filled-step q₀ q j t (scaled c q₀) h l (val
   where
     value : getD q j 0 ≡ getD q₀ j 0 → t ≡ scaled c q₀ j
     value e = unfold scaled in (u ∙ ap (times c) e)
+
+-- ---- tables of products
+
+-- a table of the multiples of c has c for its constant
+pub filled-products : (c : ℕ) (t : List ℕ) → length t ≡ 256 → Multiples c t → Products t × (constant t ≡ c)
+unfolding constant
+filled-products c t long m =
+    let e : getD t 1 0 ≡ c = m 1 (omega arith) ∙ times-one-r c in
+    (record { long = long; multiples = λ k h. m k h ∙ ap (λ (v : ℕ). times v k) (sym e) }, e)
+
+-- a table of zeros is that of 0
+pub no-products : Products (replicate 256 0)
+unfolding constant
+no-products =
+    record {
+      long = length-replicate {A = ℕ} 256 0;
+      multiples = λ k h. getD-replicate {A = ℕ} 256 k 0 0 h ∙ sym (ap (λ (v : ℕ). times v k) (getD-replicate {A = ℕ} 256 1 0 0 (omega arith)) ∙ times-zero-l k);
+    }
 
 -- all turns done
 pub filled-starts : (q₀ q : List ℕ) (j w : ℕ) (f : ℕ → ℕ) → Filled q₀ q j f → w ≤ j → Starts w q f

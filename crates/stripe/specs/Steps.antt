@@ -8,7 +8,7 @@ use Prim.Native.Nat.{ℕ, _+_, _*_, _≤_, _<_}
 use lib.Bits.{bitXor}
 use lib.Dec.{eqb, ltb}
 use lib.ListN.{length, getD}
-use Rattle.field.specs.Field.{double, times, inverse}
+use Rattle.field.specs.Field.{double, times, inverse, Multiples}
 use Rattle.stripe.specs.Parity.{pick, weight, parityP, parityQ, made, without, restP, dataSolved}
 use Rattle.stripe.specs.Places.{inOrder, Tabled, Held, Whole}
 
@@ -42,6 +42,15 @@ doubled x j = double (getD x j 0)
 
 unfoldable pub scaled : ℕ → List ℕ → ℕ → ℕ
 scaled c x j = times c (getD x j 0)
+
+-- A table of products tells its own constant by its entry 1. A table of zeros is that of 0.
+unfoldable pub constant : List ℕ → ℕ
+constant t = getD t 1 0
+
+-- entry k of the table is its constant times k, for every byte k
+pub record Products (t : List ℕ) : Type 0 where
+  pub long : length t ≡ 256
+  pub multiples : Multiples (constant t) t
 
 -- a place out of the w bytes from at on
 abbrev pub Outside : ℕ → ℕ → ℕ → Type 0

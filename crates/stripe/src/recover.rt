@@ -114,7 +114,8 @@ fn recover_one(
     ensures { λ _. ⌜ now (stripe .exit) ≡ eachColumn (replaced x (solved d x y)) d b (now (stripe .entry)) ⌝ }
 {
     let none = [0u8; 0];
-    solve::solve(stripe, &none, d + 2, ns, work, d, b, x, y);
+    let mut products = [0u8; 256];
+    solve::solve(stripe, &none, d + 2, ns, work, &mut products, d, b, x, y);
     blocks::copy_block(work, 0, stripe, x, b);
 }
 
@@ -159,7 +160,8 @@ fn split_sum(
     ensures { λ _. ⌜ now (stripe .exit) ≡ eachColumn (replaced y (sumOf x y)) d b (eachColumn (replaced x (ofSum d x y)) d b (now (stripe .entry))) ⌝ }
 {
     let none = [0u8; 0];
-    solve::solve_of_sum(stripe, &none, d + 2, ns, work, d, b, x, y);
+    let mut products = [0u8; 256];
+    solve::solve_of_sum(stripe, &none, d + 2, ns, work, &mut products, d, b, x, y);
     blocks::copy_block(work, 0, stripe, x, b);
     solve::add_block(stripe, &none, d + 2, ns[y], work, b);
     blocks::copy_block(work, 0, stripe, y, b);

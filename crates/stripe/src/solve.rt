@@ -2,7 +2,9 @@
 //
 // The blocks of the stripe are told by a table of block numbers: those below n are blocks of the
 // array, those from n on are records of the log. In the contracts they are the blocks of one
-// buffer, the array with the log behind it. The sum of a block is gathered in work, of b bytes.
+// buffer, the array with the log behind it. The sum of a block is gathered in work, of b bytes. The
+// table of products may be any constant's: it is filled anew only where another is needed, so that a
+// caller who lends it again has it filled once.
 use super::blocks;
 use super::rows;
 use super::weights;
@@ -13,7 +15,7 @@ ghost use lib.ListN.{length};
 ghost use Rattle.stripe.specs.Blocks.{gen};
 ghost use Rattle.stripe.specs.Parity.{restP, solved};
 ghost use Rattle.stripe.specs.Places.{numbered, byColumn};
-ghost use Rattle.stripe.specs.Steps.{Gathers, taken, plus, twicePlus, there, thereP, standing, standingQ, comesFromP, coefficient, quotient, ofSum};
+ghost use Rattle.stripe.specs.Steps.{Gathers, taken, plus, twicePlus, there, thereP, standing, standingQ, comesFromP, coefficient, quotient, ofSum, Products};
 
 // Recovers data block x in work, where y is missing too or is x itself.
 pub fn solve(
@@ -22,20 +24,21 @@ pub fn solve(
     n: usize,
     ns: &[usize],
     work: &mut [u8],
+    products: &mut [u8],
     d: usize,
     b: usize,
     x: usize,
     y: usize,
 )
-    requires { ⌜ Gathers d n b (now array) (now log) (now ns) (now work) × (x < d) ⌝ }
-    ensures { λ _. ⌜ now (work .exit) ≡ gen b (byColumn (solved d x y) (numbered (now (ns .entry))) b (now (array .entry) ++ now (log .entry))) ⌝ }
+    requires { ⌜ Gathers d n b (now array) (now log) (now ns) (now work) × (Products (now products) × (x < d)) ⌝ }
+    ensures { λ _. ⌜ (now (work .exit) ≡ gen b (byColumn (solved d x y) (numbered (now (ns .entry))) b (now (array .entry) ++ now (log .entry)))) × Products (now (products .exit)) ⌝ }
 {
     if comes_from_p(d, x, y) {
         gather_rest(array, log, n, ns, work, d, b, x, x);
         return;
     }
     gather_weighted(array, log, n, ns, work, d, b, x, y);
-    divide(array, log, n, ns, work, d, b, x, y);
+    divide(array, log, n, ns, work, products, d, b, x, y);
 }
 
 // Recovers data block x in work, where the block of other data y has the sum of both.
@@ -45,16 +48,17 @@ pub fn solve_of_sum(
     n: usize,
     ns: &[usize],
     work: &mut [u8],
+    products: &mut [u8],
     d: usize,
     b: usize,
     x: usize,
     y: usize,
 )
-    requires { ⌜ Gathers d n b (now array) (now log) (now ns) (now work) × ((x < d) × (y < d)) ⌝ }
-    ensures { λ _. ⌜ now (work .exit) ≡ gen b (byColumn (ofSum d x y) (numbered (now (ns .entry))) b (now (array .entry) ++ now (log .entry))) ⌝ }
+    requires { ⌜ Gathers d n b (now array) (now log) (now ns) (now work) × (Products (now products) × ((x < d) × (y < d))) ⌝ }
+    ensures { λ _. ⌜ (now (work .exit) ≡ gen b (byColumn (ofSum d x y) (numbered (now (ns .entry))) b (now (array .entry) ++ now (log .entry)))) × Products (now (products .exit)) ⌝ }
 {
     gather_weighted(array, log, n, ns, work, d, b, x, x);
-    divide(array, log, n, ns, work, d, b, x, y);
+    divide(array, log, n, ns, work, products, d, b, x, y);
 }
 
 // Adds Q to work, the weighted sum, and divides it by what data block x is multiplied by in it.
@@ -64,17 +68,19 @@ fn divide(
     n: usize,
     ns: &[usize],
     work: &mut [u8],
+    products: &mut [u8],
     d: usize,
     b: usize,
     x: usize,
     y: usize,
 )
-    requires { ⌜ Gathers d n b (now array) (now log) (now ns) (now work) × ((x < d) × (y ≤ d)) ⌝ }
-    ensures { λ _. ⌜ now (work .exit) ≡ gen b (quotient d x y (taken (numbered (now (ns .entry)) (d + 1) * b) (now (array .entry) ++ now (log .entry))) (now (work .entry))) ⌝ }
+    requires { ⌜ Gathers d n b (now array) (now log) (now ns) (now work) × (Products (now products) × ((x < d) × (y ≤ d))) ⌝ }
+    ensures { λ _. ⌜ (now (work .exit) ≡ gen b (quotient d x y (taken (numbered (now (ns .entry)) (d + 1) * b) (now (array .entry) ++ now (log .entry))) (now (work .entry)))) × Products (now (products .exit)) ⌝ }
 {
     add_block(array, log, n, ns[d + 1], work, b);
     let c = field::inv(coefficient_of(d, x, y));
-    rows::scale_row(work, c, b);
+    rows::fit_products(products, c);
+    rows::scale_row(work, products, b);
 }
 
 // Whether data block x comes from P where y is missing too.

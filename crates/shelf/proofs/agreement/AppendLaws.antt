@@ -16,12 +16,12 @@ use Rattle.shelf.proofs.general.TestLaws.{cases, clash, or-true, or-fal
 use Rattle.shelf.proofs.agreement.ListedLaws.{some-is}
 
 -- how the next block changes what has been appended
-one-on : (t : Bool) (i : ℕ) (v : List ℕ) (a : Appended) → t ≡ true
+pub one-on : (t : Bool) (i : ℕ) (v : List ℕ) (a : Appended) → t ≡ true
     → appendOne t i v a ≡ record { value = setAt (a .next) v (a .value); next = suc (a .next); noted = setAt i (some (a .next)) (a .noted) }
 unfolding appendOne
 one-on t i v a e = ap (λ (u : Bool). appendOne u i v a) e
 
-one-off : (t : Bool) (i : ℕ) (v : List ℕ) (a : Appended) → t ≡ false → appendOne t i v a ≡ a
+pub one-off : (t : Bool) (i : ℕ) (v : List ℕ) (a : Appended) → t ≡ false → appendOne t i v a ≡ a
 unfolding appendOne
 one-off t i v a e = ap (λ (u : Bool). appendOne u i v a) e
 

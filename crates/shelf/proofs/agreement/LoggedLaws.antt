@@ -46,7 +46,7 @@ bits-not false true = refl
 bits-not false false = refl
 
 -- the marks after: r where the others are marked too
-count-marked : (d : ℕ) (w m : ℕ → Bool) (r : Bool)
+pub count-marked : (d : ℕ) (w m : ℕ → Bool) (r : Bool)
     → count d (λ i. m i || (w i || r))
     ≡ count d m + choose r (count d (unlistedWritten w m) + count d (unlistedOthers w m)) (count d (unlistedWritten w m))
 unfolding choose
@@ -118,10 +118,10 @@ module _ (g : Geometry) (s : State) (b : Book) (A : Nearly g s b) (t : ℕ) (ht 
 
 -- ---- one block of a logged stripe: o and c where it has an Ori and a Cur before, w where it is written, r where the stripe is reconstruct-written
 
-abbrev pre : Bool → Bool → Bool → Bool → Bool
+abbrev pub pre : Bool → Bool → Bool → Bool → Bool
 pre o c w r = choose r (not w && not (o || c)) (w && not (o || c))
 
-listed-after : (o c w r : Bool) → ((o || pre o c w r) || (c || w)) ≡ ((o || c) || (w || r))
+pub listed-after : (o c w r : Bool) → ((o || pre o c w r) || (c || w)) ≡ ((o || c) || (w || r))
 unfolding choose
 listed-after true c w r = refl
 listed-after false true true true = refl
@@ -134,7 +134,7 @@ listed-after false false false true = refl
 listed-after false false false false = refl
 
 -- after a read-modify-write, a listed block without Ori was listed without Ori before
-was-listed : (o c w : Bool) → (o || pre o c w false) ≡ false → ((o || c) || (w || false)) ≡ true → (o ≡ false) × ((o || c) ≡ true)
+pub was-listed : (o c w : Bool) → (o || pre o c w false) ≡ false → ((o || c) || (w || false)) ≡ true → (o ≡ false) × ((o || c) ≡ true)
 unfolding choose
 was-listed true c w e l = clash refl e
 was-listed false true w e l = (refl, refl)

@@ -25,42 +25,48 @@ use Rattle.shelf.proofs.agreement.ListedLaws.{opt-cases, some-is, unlis
 use Rattle.shelf.proofs.agreement.Agreement.{Nearly, positive}
 use Rattle.shelf.proofs.agreement.StatusLaws.{in-stripe, read-passed}
 
+-- Where each listed block of stripe x has an Ori: which roles are missing, of a state with at most two failed members.
+module _ (g : Geometry) (s : State) (x : ℕ) (have : (j : ℕ) → j < g .d → s .log .ori x j ≡ none → listed (s .log) x j ≡ false) where
+  pub missing-some : (j r : ℕ) → j < g .d → s .log .ori x j ≡ some r → missing g s x j ≡ false
+  unfolding choose
+  missing-some j r h e =
+      ap₂ (λ (t u : Bool). choose (t && u) (not (isSome (s .log .ori x j))) (s .failed (memberAt g x j))) (lt-ltb j (g .d) h)
+      (ori-listed (s .log) x j r e)
+      ∙ ap not (some-is (s .log .ori x j) r e)
+
+  pub missing-none : (j : ℕ) → j < g .d → s .log .ori x j ≡ none → missing g s x j ≡ s .failed (memberAt g x j)
+  unfolding choose
+  missing-none j h e =
+      ap₂ (λ (t u : Bool). choose (t && u) (not (isSome (s .log .ori x j))) (s .failed (memberAt g x j))) (lt-ltb j (g .d) h) (have j h e)
+
+  pub missing-parity : (j : ℕ) → g .d ≤ j → missing g s x j ≡ s .failed (memberAt g x j)
+  unfolding choose
+  missing-parity j h =
+      ap (λ (t : Bool). choose (t && listed (s .log) x j) (not (isSome (s .log .ori x j))) (s .failed (memberAt g x j))) (le-ltb j (g .d) h)
+
+  -- missing is on a failed member, so no three are
+  pub missing-failed : (j : ℕ) → missing g s x j ≡ true → s .failed (memberAt g x j) ≡ true
+  missing-failed j e =
+      elim (decLt j (g .d)) [
+        | yes h ↦ opt-cases (s .log .ori x j) (λ o. sym (missing-none j h o) ∙ e) (λ r o. clash e (missing-some j r h o))
+        | no h ↦ sym (missing-parity j (omega arith)) ∙ e
+      ]
+
+  pub few-missing : count (arrayMembers g) (s .failed) ≤ 2 → (i j l : ℕ) → i < j → j < l → l < g .d + 2 → missing g s x i ≡ true → missing g s x j ≡ true → missing g s x l ≡ true → ⊥
+  few-missing two i j l ij jl ln ei ej el =
+      no-three-roles (arrayMembers g) (s .failed) (memberAt g x) (member-lt (g .d) x) (member-inj (g .d) x) two i j l ij jl ln
+      (missing-failed i ei) (missing-failed j ej) (missing-failed l el)
+
 module _ (g : Geometry) (Y : InRange g) (s : State) (b : Book) (A : Nearly g s b) (x : ℕ) (hx : x < g .s) where
   -- Where each listed block has an Ori, and each Ori record is its original, parity gives the originals.
   module _ (have : (j : ℕ) → j < g .d → s .log .ori x j ≡ none → listed (s .log) x j ≡ false)
       (hold : (j r : ℕ) → j < g .d → s .log .ori x j ≡ some r → s .log .value r ≡ A .orig x j) where
-    missing-some : (j r : ℕ) → j < g .d → s .log .ori x j ≡ some r → missing g s x j ≡ false
-    unfolding choose
-    missing-some j r h e =
-        ap₂ (λ (t u : Bool). choose (t && u) (not (isSome (s .log .ori x j))) (s .failed (memberAt g x j))) (lt-ltb j (g .d) h)
-        (ori-listed (s .log) x j r e)
-        ∙ ap not (some-is (s .log .ori x j) r e)
-
-    missing-none : (j : ℕ) → j < g .d → s .log .ori x j ≡ none → missing g s x j ≡ s .failed (memberAt g x j)
-    unfolding choose
-    missing-none j h e =
-        ap₂ (λ (t u : Bool). choose (t && u) (not (isSome (s .log .ori x j))) (s .failed (memberAt g x j))) (lt-ltb j (g .d) h) (have j h e)
-
-    missing-parity : (j : ℕ) → g .d ≤ j → missing g s x j ≡ s .failed (memberAt g x j)
-    unfolding choose
-    missing-parity j h =
-        ap (λ (t : Bool). choose (t && listed (s .log) x j) (not (isSome (s .log .ori x j))) (s .failed (memberAt g x j))) (le-ltb j (g .d) h)
-
-    -- missing is on a failed member, so no three are
-    missing-failed : (j : ℕ) → missing g s x j ≡ true → s .failed (memberAt g x j) ≡ true
-    missing-failed j e =
-        elim (decLt j (g .d)) [
-          | yes h ↦ opt-cases (s .log .ori x j) (λ o. sym (missing-none j h o) ∙ e) (λ r o. clash e (missing-some j r h o))
-          | no h ↦ sym (missing-parity j (omega arith)) ∙ e
-        ]
-
     few : (i j l : ℕ) → i < j → j < l → l < g .d + 2 → missing g s x i ≡ true → missing g s x j ≡ true → missing g s x l ≡ true → ⊥
-    few i j l ij jl ln ei ej el =
+    few =
         let e : arrayMembers g + 1 ≡ allMembers g = omega arith in
         let c : count (arrayMembers g) (s .failed) ≤ count (allMembers g) (s .failed) =
         subst (λ (z : ℕ). count (arrayMembers g) (s .failed) ≤ count z (s .failed)) e (count-more (arrayMembers g) 1 (s .failed)) in
-        no-three-roles (arrayMembers g) (s .failed) (memberAt g x) (member-lt (g .d) x) (member-inj (g .d) x) (omega (arith, A .two)) i j l ij jl ln
-        (missing-failed i ei) (missing-failed j ej) (missing-failed l el)
+        few-missing g s x have (omega (arith, A .two))
 
     original-data : (j : ℕ) → j < g .d → missing g s x j ≡ false → original g s x j ≡ A .orig x j
     original-data j h e =
@@ -68,7 +74,7 @@ module _ (g : Geometry) (Y : InRange g) (s : State) (b : Book) (A : Nearly g s b
         (lt-ltb j (g .d) h)
         ∙ opt-cases (s .log .ori x j)
         (λ o.
-        ap (λ (z : Option ℕ). orElse z (s .log .value) (s .disk x j)) o ∙ A .sound x j hx h (sym (missing-none j h o) ∙ e)
+        ap (λ (z : Option ℕ). orElse z (s .log .value) (s .disk x j)) o ∙ A .sound x j hx h (sym (missing-none g s x have j h o) ∙ e)
         ∙ sym (A .noted .plain x j hx h (unlisted (s .log) x j (have j h o) .1)))
         (λ r o. ap (λ (z : Option ℕ). orElse z (s .log .value) (s .disk x j)) o ∙ hold j r h o)
 
@@ -80,13 +86,13 @@ module _ (g : Geometry) (Y : InRange g) (s : State) (b : Book) (A : Nearly g s b
     original-p : missing g s x (g .d) ≡ false → original g s x (g .d) ≡ blockP g (A .orig x)
     original-p e =
         original-parity (g .d) (omega arith) ∙ choose-true (eqb (g .d) (roleP g)) (s .p x) (s .q x) (eq-eqb (g .d) (g .d) refl)
-        ∙ A .p x hx (sym (missing-parity (g .d) (omega arith)) ∙ e)
+        ∙ A .p x hx (sym (missing-parity g s x have (g .d) (omega arith)) ∙ e)
 
     original-q : missing g s x (g .d + 1) ≡ false → original g s x (g .d + 1) ≡ blockQ g (A .orig x)
     original-q e =
         original-parity (g .d + 1) (omega arith)
         ∙ choose-false (eqb (g .d + 1) (roleP g)) (s .p x) (s .q x) (ne-eqb (g .d + 1) (g .d) (λ z. omega arith))
-        ∙ A .q x hx (sym (missing-parity (g .d + 1) (omega arith)) ∙ e)
+        ∙ A .q x hx (sym (missing-parity g s x have (g .d + 1) (omega arith)) ∙ e)
 
     -- a block without Ori on a failed disk
     worked-back : (i : ℕ) → i < g .d → s .log .ori x i ≡ none → s .failed (memberAt g x i) ≡ true
@@ -94,7 +100,7 @@ module _ (g : Geometry) (Y : InRange g) (s : State) (b : Book) (A : Nearly g s b
     worked-back i h o f =
         worked-exact g (Y .d-most) (missing g s x) (original g s x) (A .orig x) few (λ j hj. A .origs x j hx hj)
         original-data original-p original-q i h
-        (missing-none i h o ∙ f)
+        (missing-none g s x have i h o ∙ f)
 
   -- a block that is not withheld
   pub block-exact : (i : ℕ) → i < g .d → withheld g (s .failed) (listed (s .log)) x i ≡ false → blockAt g s x i ≡ b .held x i

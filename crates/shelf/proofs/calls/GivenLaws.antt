@@ -20,11 +20,11 @@ use Rattle.stripe.proofs.Laws.{place-lt, array-byte, log-byte, solved-ignores, 
 use Rattle.shelf.specs.Counting.{choose}
 use Rattle.shelf.specs.Members.{memberAt, roleP, addressOf, column, otherMissing, workedBack}
 use Rattle.shelf.specs.State.{State}
-use Rattle.shelf.specs.Calls.{orElse, original, missing, blockAt, served}
+use Rattle.shelf.specs.Calls.{orElse, original, blockAt, served}
 use Rattle.shelf.specs.Words.{words}
 use Rattle.shelf.specs.HashList.{noneWord, said, isRecord}
 use Rattle.shelf.specs.Lent.{lent, recordAt, stateOf, oriBy, flagAt, arrayBlock, readBuffer}
-use Rattle.shelf.specs.Reading.{Ready, latest, originalPlace, missingBy, lostBlock, givenBlock}
+use Rattle.shelf.specs.Reading.{Ready, latest, originalPlace, missingBy, solvedBlock, lostBlock, servedBlock}
 use Rattle.shelf.specs.declared.record.Geometry.{Geometry}
 use Rattle.shelf.specs.declared.record.Shelf.{Shelf}
 use Rattle.shelf.proofs.general.TestLaws.{cases, clash, choose-true, choose-false}
@@ -154,36 +154,40 @@ module _ (r : Shelf) (a n l : List ℕ) (R : Ready (lent r a n l)) (x : ℕ) (hx
       ∙ sym (getD-block (g .b) (place (g .d) (g .s) x i) a j hj)
       ∙ ap (λ (k : List ℕ). getD k j 0) (sym (original-array i h e)))
 
-  pub worked : (i y : ℕ) (ns work : List ℕ) → i < r .geometry .d → Tabled (r .geometry .d + 2) (originalPlace (r .geometry) l x) ns
-      → y ≡ otherMissing (r .geometry) (missingBy r l x) i
-      → work ≡ gen (r .geometry .b) (byColumn (solved (r .geometry .d) i y) (numbered ns) (r .geometry .b) (a ++ n)) → work ≡ lostBlock (lent r a n l) x i
-  unfolding workedBack byColumn columnAt numbered stateOf
-  worked i y ns work hi tab e is =
+  -- what is gathered by the table is gathered of the originals
+  pub worked-by : (i y : ℕ) (ns work : List ℕ) → i < r .geometry .d → Tabled (r .geometry .d + 2) (originalPlace (r .geometry) l x) ns
+      → work ≡ gen (r .geometry .b) (byColumn (solved (r .geometry .d) i y) (numbered ns) (r .geometry .b) (a ++ n)) → work ≡ solvedBlock (lent r a n l) x i y
+  unfolding byColumn columnAt numbered solvedBlock
+  worked-by i y ns work hi tab is =
       let g = r .geometry in
       is ∙ gen-ext (g .b) (λ j. solved (g .d) i y (columnAt (numbered ns) (g .b) (a ++ n) j))
-      (λ j. solved (g .d) i (otherMissing g (missing g (stateOf (lent r a n l)) x) i) (column (original g (stateOf (lent r a n l)) x) j))
+      (λ j. solved (g .d) i y (column (original g (stateOf (lent r a n l)) x) j))
       (λ j hj.
       solved-ignores (g .d) i y (columnAt (numbered ns) (g .b) (a ++ n) j) (column (original g (stateOf (lent r a n l)) x) j) hi
-      (λ k hk _ _. ap (λ (m : ℕ). byteOf (g .b) (a ++ n) m j) (tab k hk) ∙ original-byte k j hk hj)
-      ∙ ap (λ (z : ℕ). solved (g .d) i z (column (original g (stateOf (lent r a n l)) x) j)) e)
+      (λ k hk _ _. ap (λ (m : ℕ). byteOf (g .b) (a ++ n) m j) (tab k hk) ∙ original-byte k j hk hj))
+
+  pub worked : (i y : ℕ) (work : List ℕ) → y ≡ otherMissing (r .geometry) (missingBy r l x) i → work ≡ solvedBlock (lent r a n l) x i y
+      → work ≡ lostBlock (lent r a n l) x i
+  unfolding workedBack stateOf solvedBlock
+  worked i y work e is = is ∙ ap (λ (z : ℕ). solvedBlock (lent r a n l) x i z) e
 
   -- ---- the block that a read gives
 
   module _ (i : ℕ) where
     pub given-sound : flagAt r (memberAt (r .geometry) x i) ≡ false
-        → block (r .geometry .b) (place (r .geometry .d) (r .geometry .s) x i) a ≡ givenBlock (lent r a n l) x i
+        → block (r .geometry .b) (place (r .geometry .d) (r .geometry .s) x i) a ≡ servedBlock (lent r a n l) x i
     unfolding blockAt stateOf
     given-sound t = sym (choose-false (flagAt r (memberAt (r .geometry) x i)) _ _ t)
 
     module _ (t : flagAt r (memberAt (r .geometry) x i) ≡ true) (v : ℕ) (e : v ≡ latest (words l) (r .geometry) (addressOf (r .geometry) x i)) where
-      pub given-log : v ≢ noneWord → block (r .geometry .b) v n ≡ givenBlock (lent r a n l) x i
+      pub given-log : v ≢ noneWord → block (r .geometry .b) v n ≡ servedBlock (lent r a n l) x i
       unfolding blockAt stateOf latest
       given-log u =
           let w = said (words l) (r .geometry) (addressOf (r .geometry) x i) in
           cur-or-ori (w .cur) (w .ori) (λ k. block (r .geometry .b) k n) (lostBlock (lent r a n l) x i) v e u
           ∙ sym (choose-true (flagAt r (memberAt (r .geometry) x i)) _ _ t)
 
-      pub given-lost : v ≡ noneWord → lostBlock (lent r a n l) x i ≡ givenBlock (lent r a n l) x i
+      pub given-lost : v ≡ noneWord → lostBlock (lent r a n l) x i ≡ servedBlock (lent r a n l) x i
       unfolding blockAt stateOf latest
       given-lost u =
           let w = said (words l) (r .geometry) (addressOf (r .geometry) x i) in
@@ -210,7 +214,7 @@ module _ (r : Shelf) (a n l : List ℕ) (R : Ready (lent r a n l)) (x : ℕ) (hx
     unfolding workedBack
     lost-length = length-gen (r .geometry .b) _
 
-    pub given-length : i < r .geometry .d → length (givenBlock (lent r a n l) x i) ≡ r .geometry .b
+    pub given-length : i < r .geometry .d → length (servedBlock (lent r a n l) x i) ≡ r .geometry .b
     given-length h =
         cases (flagAt r (memberAt (r .geometry) x i))
         (λ t. elim (ℕ-discrete (latest (words l) (r .geometry) (addressOf (r .geometry) x i)) noneWord) [

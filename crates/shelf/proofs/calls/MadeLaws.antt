@@ -22,6 +22,7 @@ use Rattle.shelf.specs.Calls.{nextLeft, modeLeft, settled, dropped, made
 use Rattle.shelf.specs.Words.{words}
 use Rattle.shelf.specs.HashList.{noneWord, Entry, entry, entries, said, valid, listedIn, staleIn}
 use Rattle.shelf.specs.Rewriting.{Rewritten, dropStripe}
+pub use Rattle.shelf.specs.Showing.{HoldsArray, HoldsList}
 use Rattle.shelf.specs.Lent.{Lent, lent, recordAt, oriBy, curBy, arrayBlock, arrayLength, listedBy, listLength, flagsOf, recordOf, roleBlock, logOf, formatted, Leaves}
 use Rattle.shelf.specs.Records.{withListed}
 use Rattle.shelf.specs.declared.record.Geometry.{Geometry}
@@ -51,25 +52,13 @@ byte-block b n l j p = sym (getD-block b n l j p)
 
 -- ---- what is lent is a state, part by part: array and list are carried from stripe to stripe as these two say
 
--- the array a holds the state's blocks
-pub record Reads (g : Geometry) (s : State) (a : List ℕ) : Type 0 where
-  pub long : length a ≡ arrayLength g
-  pub blocks : (x i : ℕ) → x < g .s → i < g .d + 2 → roleBlock g s x i ≡ arrayBlock g a x i
-
--- the list l has k entries, passes number 3 with the state's next free record, and says of each block what the state says
-pub record Says (g : Geometry) (s : State) (k : ℕ) (l : List ℕ) : Type 0 where
-  pub length-of : length l ≡ listLength g
-  pub passes : valid (words l) g (s .log .next) k ≡ true
-  pub ori : (x i : ℕ) → x < g .s → i < g .d → oriBy g l x i ≡ s .log .ori x i
-  pub cur : (x i : ℕ) → x < g .s → i < g .d → curBy g l x i ≡ s .log .cur x i
-
-pub says-marks : (g : Geometry) (s : State) (k : ℕ) (l : List ℕ) → InRange g → Says g s k l → marksIn g (listed (s .log)) ≡ k
+pub says-marks : (g : Geometry) (s : State) (k : ℕ) (l : List ℕ) → InRange g → HoldsList g s k l → marksIn g (listed (s .log)) ≡ k
 says-marks g s k l Y Z =
     marksIn-ext g (listed (s .log)) (listedBy g l)
     (λ x i hx hi. ap₂ (λ (o c : Option ℕ). isSome o || isSome c) (sym (Z .ori x i hx hi)) (sym (Z .cur x i hx hi)))
     ∙ marks-listed g l (s .log .next) k Y (Z .passes)
 
-pub leaves-by : (g : Geometry) (s : State) (r : Shelf) (a n l : List ℕ) → InRange g → r ≡ recordOf g s → Reads g s a → n ≡ logOf g s → Says g s (r .listed) l
+pub leaves-by : (g : Geometry) (s : State) (r : Shelf) (a n l : List ℕ) → InRange g → r ≡ recordOf g s → HoldsArray g s a → n ≡ logOf g s → HoldsList g s (r .listed) l
     → Leaves g s (lent r a n l)
 leaves-by g s r a n l Y er A en Z =
     record {
@@ -83,7 +72,7 @@ leaves-by g s r a n l Y er A en Z =
     }
 
 -- and back, for the list
-pub leaves-says : (g : Geometry) (s : State) (h : Lent) → Leaves g s h → Says g s (h .shelf .listed) (h .list)
+pub leaves-says : (g : Geometry) (s : State) (h : Lent) → Leaves g s h → HoldsList g s (h .shelf .listed) (h .list)
 leaves-says g s h L =
     record {
       length-of = L .length-of;
@@ -129,10 +118,10 @@ module _ (g : Geometry) (s : State) (t : ℕ) (row : ℕ → List ℕ) (a : List
       (length-block (g .b) (place (g .d) (g .s) x i) a (room x i hx hi))
       (λ j l. made-others at (g .d) (g .b) a (λ k h. room t k ht h) own (place (g .d) (g .s) x i) j l u v ∙ byte-block (g .b) (place (g .d) (g .s) x i) a j l)
 
-  elsewhere : (x i : ℕ) → x < g .s → i < g .d + 2 → x ≢ t → arrayBlock g after x i ≡ arrayBlock g a x i
+  pub elsewhere : (x i : ℕ) → x < g .s → i < g .d + 2 → x ≢ t → arrayBlock g after x i ≡ arrayBlock g a x i
   elsewhere x i hx hi ne = stays x i hx hi (place-other (g .d) (g .s) x t i (g .d) hx ht ne) (place-other (g .d) (g .s) x t i (g .d + 1) hx ht ne)
 
-  in-row : (i : ℕ) → i < g .d → arrayBlock g after t i ≡ row i
+  pub in-row : (i : ℕ) → i < g .d → arrayBlock g after t i ≡ row i
   in-row i hi =
       stays t i ht (omega arith) (own i (g .d) (omega arith) (omega arith) (λ e. omega arith)) (own i (g .d + 1) (omega arith) (omega arith) (λ e. omega arith))
       ∙ R .here i hi
@@ -141,7 +130,7 @@ module _ (g : Geometry) (s : State) (t : ℕ) (row : ℕ → List ℕ) (a : List
   unfolding columnAt
   columns j l i hi = byte-block (g .b) (at i) a j l ∙ ap (λ (v : List ℕ). getD v j 0) (R .here i hi)
 
-  in-p : arrayBlock g after t (g .d) ≡ blockP g row
+  pub in-p : arrayBlock g after t (g .d) ≡ blockP g row
   unfolding blockP byColumn
   in-p =
       block-is (g .b) (at (g .d)) after (gen (g .b) (λ j. parityP (g .d) (column row j))) (after-room t (g .d) ht (omega arith))
@@ -149,7 +138,7 @@ module _ (g : Geometry) (s : State) (t : ℕ) (row : ℕ → List ℕ) (a : List
       (λ j l. made-in-p at (g .d) (g .b) a (λ k h. room t k ht h) own j l ∙ parityP-ext (g .d) (columnAt at (g .b) a j) (column row j) (columns j l)
       ∙ sym (getD-gen (g .b) (λ j. parityP (g .d) (column row j)) j l))
 
-  in-q : arrayBlock g after t (g .d + 1) ≡ blockQ g row
+  pub in-q : arrayBlock g after t (g .d + 1) ≡ blockQ g row
   unfolding blockQ byColumn
   in-q =
       block-is (g .b) (at (g .d + 1)) after (gen (g .b) (λ j. parityQ (g .d) (column row j))) (after-room t (g .d + 1) ht (omega arith))
@@ -158,7 +147,7 @@ module _ (g : Geometry) (s : State) (t : ℕ) (row : ℕ → List ℕ) (a : List
       ∙ sym (getD-gen (g .b) (λ j. parityQ (g .d) (column row j)) j l))
 
   -- the array with the stripe's parity made holds the blocks of `made`
-  pub made-reads : Reads g (made g s t row) (parityMade (place (g .d) (g .s) t) (g .d) (g .b) a)
+  pub made-reads : HoldsArray g (made g s t row) (parityMade (place (g .d) (g .s) t) (g .d) (g .b) a)
   unfolding made settled
   made-reads =
       record {
@@ -185,7 +174,7 @@ module _ (g : Geometry) (s : State) (t : ℕ) (row : ℕ → List ℕ) (a : List
 
 -- the array of a state, with the data blocks of stripe t that w picks replaced: what a write leaves before parity is made. For w of none it is the
 -- array as it was
-pub rowed : (g : Geometry) (s : State) (t : ℕ) (w : ℕ → Bool) (v : ℕ → List ℕ) (a a' : List ℕ) → t < g .s → Reads g s a → length a' ≡ length a
+pub rowed : (g : Geometry) (s : State) (t : ℕ) (w : ℕ → Bool) (v : ℕ → List ℕ) (a a' : List ℕ) → t < g .s → HoldsArray g s a → length a' ≡ length a
     → ((i : ℕ) → i < g .d → arrayBlock g a' t i ≡ choose (w i) (v i) (arrayBlock g a t i))
     → ((x i : ℕ) → x < g .s → x ≢ t → i < g .d + 2 → arrayBlock g a' x i ≡ arrayBlock g a x i) → Rowed g s t (overwritten w v (s .disk t)) a'
 rowed g s t w v a a' ht A long here other =
@@ -198,7 +187,7 @@ rowed g s t w v a a' ht A long here other =
     }
 
 -- the same of an array in which nothing is replaced
-pub rowed-same : (g : Geometry) (s : State) (t : ℕ) (a : List ℕ) → t < g .s → Reads g s a → Rowed g s t (s .disk t) a
+pub rowed-same : (g : Geometry) (s : State) (t : ℕ) (a : List ℕ) → t < g .s → HoldsArray g s a → Rowed g s t (s .disk t) a
 rowed-same g s t a ht A =
     record {
       long = A .long;
@@ -215,7 +204,7 @@ unfolding recordAt choose
 none-word = refl
 
 -- the stripe's entries dropped: l₀ before, l after
-module _ (g : Geometry) (s : State) (t : ℕ) (row : ℕ → List ℕ) (Y : InRange g) (k₀ k : ℕ) (l₀ l : List ℕ) (most : k₀ ≤ g .e) (Z : Says g s k₀ l₀)
+module _ (g : Geometry) (s : State) (t : ℕ) (row : ℕ → List ℕ) (Y : InRange g) (k₀ k : ℕ) (l₀ l : List ℕ) (most : k₀ ≤ g .e) (Z : HoldsList g s k₀ l₀)
     (W : Rewritten g (dropStripe (g .d) t (entries (words l₀) g)) l k) where
   said-gone : (x i : ℕ) → i < g .d → x ≡ t → said (words l) g (addressOf g x i) ≡ entry (addressOf g x i) noneWord noneWord
   said-gone x i hi e =
@@ -247,7 +236,7 @@ module _ (g : Geometry) (s : State) (t : ℕ) (row : ℕ → List ℕ) (Y : InRa
       ∙ marksIn-ext g (listedBy g l) (listed (dropped (s .log) t))
       (λ x i hx hi. ap₂ (λ (o c : Option ℕ). isSome o || isSome c) (dropped-ori x i hx hi) (dropped-cur x i hx hi))
 
-  pub made-says : Says g (made g s t row) k l
+  pub made-says : HoldsList g (made g s t row) k l
   unfolding made settled
   made-says =
       record {
@@ -260,7 +249,7 @@ module _ (g : Geometry) (s : State) (t : ℕ) (row : ℕ → List ℕ) (Y : InRa
 
 -- A stripe that is not stale has no entries, and the list is left as it is. (A list that a call does not alter must keep its bytes, so the code may not
 -- write it anew then.)
-module _ (g : Geometry) (s : State) (t : ℕ) (row : ℕ → List ℕ) (Y : InRange g) (k : ℕ) (l : List ℕ) (Z : Says g s k l)
+module _ (g : Geometry) (s : State) (t : ℕ) (row : ℕ → List ℕ) (Y : InRange g) (k : ℕ) (l : List ℕ) (Z : HoldsList g s k l)
     (clean : (i : ℕ) → i < g .d → listed (s .log) t i ≡ false) (idle : nextLeft k (s .log .next) ≡ s .log .next) where
   clean-ori : (x i : ℕ) → i < g .d → s .log .ori x i ≡ setAt t (λ _. none) (s .log .ori) x i
   clean-ori x i hi =
@@ -281,7 +270,7 @@ module _ (g : Geometry) (s : State) (t : ℕ) (row : ℕ → List ℕ) (Y : InRa
       marksIn-ext g (listed (dropped (s .log) t)) (listed (s .log))
       (λ x i hx hi. ap₂ (λ (o c : Option ℕ). isSome o || isSome c) (sym (clean-ori x i hi)) (sym (clean-cur x i hi))) ∙ says-marks g s k l Y Z
 
-  pub clean-says : Says g (made g s t row) k l
+  pub clean-says : HoldsList g (made g s t row) k l
   unfolding made settled
   clean-says =
       record {
@@ -292,7 +281,7 @@ module _ (g : Geometry) (s : State) (t : ℕ) (row : ℕ → List ℕ) (Y : InRa
       }
 
 -- a stripe is stale in the list where it is in the state
-pub says-stale : (g : Geometry) (s : State) (k : ℕ) (l : List ℕ) → InRange g → Says g s k l → (x : ℕ) → x < g .s → staleIn (words l) g x ≡ stale g (listed (s .log)) x
+pub says-stale : (g : Geometry) (s : State) (k : ℕ) (l : List ℕ) → InRange g → HoldsList g s k l → (x : ℕ) → x < g .s → staleIn (words l) g x ≡ stale g (listed (s .log)) x
 unfolding staleIn
 says-stale g s k l Y Z x hx =
     any-ext (g .d) (listedIn (words l) g x) (listed (s .log) x)
@@ -300,19 +289,19 @@ says-stale g s k l Y Z x hx =
 
 -- the stripe's entries dropped where there are some, the list left where there are none: as `drop_stale` does
 pub dropped-says : (g : Geometry) (s : State) (t : ℕ) (row : ℕ → List ℕ) → InRange g → t < g .s → (k₀ k : ℕ) (l₀ l : List ℕ) → k₀ ≤ g .e
-    → nextLeft k₀ (s .log .next) ≡ s .log .next → Says g s k₀ l₀
+    → nextLeft k₀ (s .log .next) ≡ s .log .next → HoldsList g s k₀ l₀
     → (staleIn (words l₀) g t ≡ true → Rewritten g (dropStripe (g .d) t (entries (words l₀) g)) l k) → (staleIn (words l₀) g t ≡ false → (l ≡ l₀) × (k ≡ k₀))
-    → Says g (made g s t row) k l
+    → HoldsList g (made g s t row) k l
 dropped-says g s t row Y ht k₀ k l₀ l most idle Z drops stays =
     cases (staleIn (words l₀) g t)
     (λ y. made-says g s t row Y k₀ k l₀ l most Z (drops y))
     (λ y.
-    subst (λ (m : ℕ). Says g (made g s t row) m l) (sym (stays y .1))
-    (subst (λ (b : List ℕ). Says g (made g s t row) k₀ b) (sym (stays y .0))
+    subst (λ (m : ℕ). HoldsList g (made g s t row) m l) (sym (stays y .1))
+    (subst (λ (b : List ℕ). HoldsList g (made g s t row) k₀ b) (sym (stays y .0))
     (clean-says g s t row Y k₀ l₀ Z (any-none (g .d) (listed (s .log) t) (sym (says-stale g s k₀ l₀ Y Z t ht) ∙ y)) idle)))
 
 -- the record with k entries left
-pub made-record : (g : Geometry) (s : State) (t : ℕ) (row : ℕ → List ℕ) (r : Shelf) (k : ℕ) (l : List ℕ) → InRange g → r ≡ recordOf g s → Says g (made g s t row) k l
+pub made-record : (g : Geometry) (s : State) (t : ℕ) (row : ℕ → List ℕ) (r : Shelf) (k : ℕ) (l : List ℕ) → InRange g → r ≡ recordOf g s → HoldsList g (made g s t row) k l
     → withListed r k ≡ recordOf g (made g s t row)
 unfolding made settled
 made-record g s t row r k l Y er Z =
@@ -326,7 +315,7 @@ made-log g s t row n e = e
 
 -- Stripe t with the data blocks of row made, all of it: from what is lent as the state s, but for the array a, which has the row already.
 pub made-leaves : (g : Geometry) (s : State) (t : ℕ) (row : ℕ → List ℕ) (r : Shelf) (k : ℕ) (a n l : List ℕ) → InRange g → t < g .s → r ≡ recordOf g s → n ≡ logOf g s
-    → Rowed g s t row a → Says g (made g s t row) k l
+    → Rowed g s t row a → HoldsList g (made g s t row) k l
     → Leaves g (made g s t row) (lent (withListed r k) (parityMade (place (g .d) (g .s) t) (g .d) (g .b) a) n l)
 made-leaves g s t row r k a n l Y ht er en R Z =
     leaves-by g (made g s t row) (withListed r k) (parityMade (place (g .d) (g .s) t) (g .d) (g .b) a) n l Y (made-record g s t row r k l Y er Z) (made-reads g s t row a ht R)
@@ -393,7 +382,7 @@ module _ (g : Geometry) (disk : ℕ → ℕ → List ℕ) (a : List ℕ) (F : Fi
       ∙ sym (getD-gen (g .b) (λ j. parityQ (g .d) (column (disk x) j)) j l))
 
   -- the array with all parity made holds the blocks of `remade`
-  pub remade-reads : (s : State) (f : ℕ → Bool) → Reads g (remade g s disk f) (parityMadeAll (g .s) (place (g .d) (g .s)) (g .d) (g .b) a)
+  pub remade-reads : (s : State) (f : ℕ → Bool) → HoldsArray g (remade g s disk f) (parityMadeAll (g .s) (place (g .d) (g .s)) (g .d) (g .b) a)
   unfolding remade
   remade-reads s f =
       record {
@@ -425,7 +414,7 @@ fresh-cur : (g : Geometry) → InRange g → (x i : ℕ) → x < g .s → i < g 
 unfolding freshState
 fresh-cur g Y x i hx hi = fresh-leaves g Y .cur x i hx hi
 
-pub remade-says : (g : Geometry) (s : State) (disk : ℕ → ℕ → List ℕ) (f : ℕ → Bool) → InRange g → Says g (remade g s disk f) 0 (replicate (listLength g) 255)
+pub remade-says : (g : Geometry) (s : State) (disk : ℕ → ℕ → List ℕ) (f : ℕ → Bool) → InRange g → HoldsList g (remade g s disk f) 0 (replicate (listLength g) 255)
 unfolding remade
 remade-says g s disk f Y =
     let same = empty-bytes g in

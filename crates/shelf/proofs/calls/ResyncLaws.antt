@@ -31,7 +31,7 @@ use Rattle.shelf.proofs.lent.LayoutLaws.{log-is, role-data, role-p, rol
 use Rattle.shelf.proofs.lent.LeavesLaws.{same-flags, leaves-here, refused-answered}
 use Rattle.shelf.proofs.hashlist.ListMarks.{listed-found}
 use Rattle.shelf.proofs.hashlist.ListMeaning.{passing}
-use Rattle.shelf.proofs.calls.MadeLaws.{Reads, leaves-says, rowed-same, made-says, made-leaves, Filled, remade-leaves}
+use Rattle.shelf.proofs.calls.MadeLaws.{HoldsArray, leaves-says, rowed-same, made-says, made-leaves, Filled, remade-leaves}
 
 -- a lowest number that is found passes the test
 first-holds : (n : ℕ) (f : ℕ → Bool) → first n f < n → f (first n f) ≡ true
@@ -116,7 +116,7 @@ module _ (r : Shelf) (a n l : List ℕ) where
       )
 
   -- the lowest stale stripe is made
-  held : Passed r (length a) (length n) l → Reads g (inMode (stateOf (lent r a n l)) 2) a
+  held : Passed r (length a) (length n) l → HoldsArray g (inMode (stateOf (lent r a n l)) 2) a
   unfolding stateOf
   held P =
       record {

@@ -55,6 +55,12 @@ module _ (w : List ℕ) (g : Geometry) (a p : ℕ) (e : p ≡ lookup w g a) wher
   pub ori-off : g .e ≤ p → noneWord ≡ said w g a .ori
   ori-off h = sym (ap (λ (x : Entry). x .ori) (said-off h))
 
+  pub cur-there : p < g .e → (c : ℕ) → c ≡ curAt w (g .h) p → c ≡ said w g a .cur
+  cur-there h c q = q ∙ sym (ap (λ (x : Entry). x .cur) (said-at h))
+
+  pub cur-off : g .e ≤ p → noneWord ≡ said w g a .cur
+  cur-off h = sym (ap (λ (x : Entry). x .cur) (said-off h))
+
   pub latest-off : g .e ≤ p → noneWord ≡ latest w g a
   unfolding latest choose
   latest-off h = sym (ap (λ (x : Entry). choose (eqb (x .cur) noneWord) (x .ori) (x .cur)) (said-off h))

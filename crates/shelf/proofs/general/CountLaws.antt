@@ -3,7 +3,7 @@
 use mathlib.Core.Bool.{Bool, true, false, _||_, false≢true}
 use mathlib.Core.Logic.{_⊎_, inl, inr, ⊎-elim}
 use mathlib.Core.Path.{_≡_, refl, sym, ap, ap₂, _∙_, subst}
-use Prim.Native.Nat.{ℕ, zero, suc, _+_, _≤_, _<_}
+use Prim.Native.Nat.{ℕ, zero, suc, _+_, _-_, _≤_, _<_}
 use native.Mathlib.Decide.{decLt}
 use native.Mathlib.Omega.{arith}
 use lib.Dec.{eqb}
@@ -148,6 +148,29 @@ count-on c w e = let a : count c w + bit (w c) ≡ count c w + 1 = ap (λ (t : B
 pub count-off : (c : ℕ) (w : ℕ → Bool) → w c ≡ false → count (suc c) w ≡ count c w
 unfolding count bit
 count-off c w e = let a : count c w + bit (w c) ≡ count c w + 0 = ap (λ (t : Bool). count c w + bit t) e in omega (arith, a)
+
+pub count-most : (n : ℕ) (w : ℕ → Bool) → count n w ≤ n
+count-most zero w = unfold count in omega arith
+count-most (suc n) w =
+    let r = count-most n w in cases (w n) (λ e. omega (arith, r, count-on n w e)) (λ e. omega (arith, r, count-off n w e))
+
+-- fewer are counted before one that passes than after it
+pub count-less : (w : ℕ → Bool) (i n : ℕ) → i < n → w i ≡ true → count i w < count n w
+count-less w i n h e =
+    let k : suc i + (n - suc i) ≡ n = omega arith in
+    let m : count (suc i) w ≤ count n w = subst (λ (j : ℕ). count (suc i) w ≤ count j w) k (count-more (suc i) (n - suc i) w) in
+    omega (arith, m, count-on i w e)
+
+-- each number below the count is how many pass before one that passes
+pub count-onto : (w : ℕ → Bool) (n j : ℕ) → j < count n w → (i : ℕ) × ((i < n) × ((w i ≡ true) × (count i w ≡ j)))
+count-onto w zero j h = absurd (unfold count in omega arith)
+count-onto w (suc n) j h =
+    elim (decLt j (count n w)) [
+      | yes p ↦ let r = count-onto w n j p in (r .0, (omega (arith, r .1 .0), r .1 .1))
+      | no p ↦ cases (w n)
+          (λ e. let q : count n w ≡ j = omega (arith, count-on n w e) in (n, (omega arith, (e, q))))
+          (λ e. absurd (omega (arith, count-off n w e)))
+    ]
 
 -- two tables that differ at one place
 pub total-at : (n : ℕ) (f f' : ℕ → ℕ) (t : ℕ) → t < n → ((i : ℕ) → i < n → (i ≡ t → ⊥) → f i ≡ f' i) → total n f + f' t ≡ total n f' + f t

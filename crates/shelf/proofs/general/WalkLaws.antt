@@ -1,6 +1,6 @@
 -- Counting for walks: from a number on and row by row, the turns of loops that count or search, and what the first that passes is known by.
 -- Assumes nothing.
-use mathlib.Core.Bool.{Bool, true, false, _&&_, _||_}
+use mathlib.Core.Bool.{Bool, true, false, _||_}
 use mathlib.Core.Logic.{⊎-elim, _≢_}
 use mathlib.Core.Path.{_≡_, refl, sym, ap, ap₂, _∙_}
 use Prim.Native.Nat.{ℕ, zero, suc, _+_, _*_, _≤_, _<_}
@@ -9,8 +9,8 @@ use native.Mathlib.Omega.{arith}
 use lib.Dec.{eqb, ltb}
 use borrow.Author.Tests.{ne-eqb, eqb-true, eqb-false, ltb-true, ltb-false}
 use Rattle.shelf.specs.Counting.{choose, bit, count, total, any, first}
-use Rattle.shelf.proofs.general.TestLaws.{either-way, not-so, false-is, and-both, or-false, choose-true, choose-false}
-use Rattle.shelf.proofs.general.CountLaws.{count-ext, any-some, none-any, none-count}
+use Rattle.shelf.proofs.general.TestLaws.{either-way, not-so, or-false, choose-true, choose-false}
+use Rattle.shelf.proofs.general.CountLaws.{any-some}
 
 -- ---- counting from a on
 
@@ -155,7 +155,7 @@ pub count-start : (f : ℕ → Bool) → 0 ≡ count 0 f
 unfolding count
 count-start f = refl
 
-count-turn : (n k : ℕ) (f : ℕ → Bool) (t : Bool) → k ≡ count n f → t ≡ f n → k + bit t ≡ count (n + 1) f
+pub count-turn : (n k : ℕ) (f : ℕ → Bool) (t : Bool) → k ≡ count n f → t ≡ f n → k + bit t ≡ count (n + 1) f
 count-turn n k f t q e =
     let s : n + 1 ≡ suc n = omega arith in ap₂ (λ (j : ℕ) (b : Bool). j + bit b) q e ∙ sym (count-suc n f)
     ∙ ap (λ (j : ℕ). count j f) (sym s)
@@ -167,46 +167,3 @@ count-passed n k f t q e h = count-turn n k f true q (sym h ∙ e)
 pub count-left : (n k : ℕ) (f : ℕ → Bool) (t : Bool) → k ≡ count n f → t ≡ f n → t ≡ false → k ≡ count (n + 1) f
 unfolding bit
 count-left n k f t q e h = sym (add-zero k) ∙ count-turn n k f false q (sym h ∙ e)
-
--- one more passes
-count-one-more : (n y : ℕ) (f : ℕ → Bool) → y < n → f y ≡ false → count n (λ x. f x || eqb y x) ≡ count n f + 1
-unfolding count bit
-count-one-more zero y f o q = absurd (omega arith)
-count-one-more (suc n) y f o q =
-    ⊎-elim
-    (λ t.
-    let z : y ≡ n = eqb-true y n t in
-    ap₂ _+_ (count-ext n (λ x. f x || eqb y x) f (λ i l. ap (λ (b : Bool). f i || b) (ne-eqb y i (λ e. omega arith)) ∙ or-false (f i)))
-    (ap₂ (λ (b c : Bool). bit (b || c)) (ap f (sym z) ∙ q) t)
-    ∙ ap (λ (k : ℕ). k + 1) (sym (add-zero (count n f))) ∙ ap (λ (b : Bool). count n f + bit b + 1) (sym q ∙ ap f z))
-    (λ t.
-    let z : y ≢ n = eqb-false y n t in
-    ap₂ _+_ (count-one-more n y f (omega arith) q) (ap bit (ap (λ (b : Bool). f n || b) t ∙ or-false (f n))) ∙ swap (count n f) (bit (f n)))
-    (either-way (eqb y n))
-  where
-    swap : (a b : ℕ) → a + 1 + b ≡ a + b + 1
-    swap a b = omega arith
-
--- as many of the first n pass as there are numbers below s that one of them is sent to, where no two are sent to the same
-module _ (s : ℕ) (f : ℕ → Bool) (to : ℕ → ℕ) where
-  abbrev pub hits : ℕ → ℕ → Bool
-  hits n x = any n (λ q. f q && eqb (to q) x)
-
-  pub count-hits : (n : ℕ) → ((q : ℕ) → q < n → f q ≡ true → to q < s)
-      → ((q r : ℕ) → q < r → r < n → f q ≡ true → f r ≡ true → to q ≡ to r → ⊥) → count s (hits n) ≡ count n f
-  unfolding any bit count
-  count-hits zero low one = none-count s (hits zero) (λ i p. refl)
-  count-hits (suc n) low one =
-      let ih : count s (hits n) ≡ count n f = count-hits n (λ q o. low q (omega arith)) (λ q r o l. one q r o (omega arith)) in
-      ⊎-elim
-      (λ t.
-      let fresh : hits n (to n) ≡ false =
-      none-any n (λ q. f q && eqb (to q) (to n))
-      (λ q o. false-is (f q && eqb (to q) (to n)) (λ u. let b = and-both (f q) (eqb (to q) (to n)) u in
-      one q n o (omega arith) (b .0) t (eqb-true (to q) (to n) (b .1)))) in
-      count-ext s (hits (suc n)) (λ x. hits n x || eqb (to n) x) (λ x o. ap (λ (b : Bool). hits n x || (b && eqb (to n) x)) t)
-      ∙ count-one-more s (to n) (hits n) (low n (omega arith) t) fresh ∙ ap₂ (λ (k : ℕ) (b : Bool). k + bit b) ih (sym t) ∙ sym (count-suc n f))
-      (λ t.
-      count-ext s (hits (suc n)) (hits n) (λ x o. ap (λ (b : Bool). hits n x || (b && eqb (to n) x)) t ∙ or-false (hits n x))
-      ∙ ih ∙ sym (add-zero (count n f)) ∙ ap (λ (b : Bool). count n f + bit b) (sym t) ∙ sym (count-suc n f))
-      (either-way (f n))

@@ -13,7 +13,7 @@ use lib.Seq.{getD-set-same, getD-set-other, take-suc, take-suc-set, take-set-le}
 use borrow.Author.Tests.{eq-eqb, ne-eqb, lt-ltb, le-ltb, eqb-true, eqb-false, ltb-true, ltb-false}
 use Rattle.shelf.specs.declared.record.Geometry.{Geometry}
 use Rattle.shelf.specs.HashList.{addressAt, oriAt, curAt, lookup, valid, Entry, entry, entryAt, entriesFrom, entries, entryIn}
-use Rattle.shelf.specs.Rewriting.{sink, dropStripe, keeps, insertE, at3, merged, sunk, Segment}
+use Rattle.shelf.specs.Rewriting.{sink, dropStripe, keeps, insertE, at3, held, merged, sunk, Segment}
 use Rattle.shelf.proofs.general.TestLaws.{either-way, not-so, and-both, and-false}
 use Rattle.shelf.proofs.hashlist.ChainLaws.{entry-eq}
 use Rattle.shelf.proofs.hashlist.DecodeLaws.{Rising, Under, rising-less, InE, entries-hit, entries-step}
@@ -36,6 +36,31 @@ insert-end : (y : Entry) (es : List Entry) → Under (y .address) es → insertE
 unfolding insertE
 insert-end y [] u = refl
 insert-end y (x ∷ xs) u = insert-past y x xs (u .0) ∙ ap (λ (r : List Entry). x ∷ r) (insert-end y xs (u .1))
+
+-- entries of a slice that rise, put into none, stand as they do in the slice
+held-snoc : (c i : ℕ) (y : List ℕ) → held (suc c) i y ≡ held c i y ++ (at3 y (i + c) ∷ [])
+unfolding held
+held-snoc zero i y = ap (λ (k : ℕ). at3 y k ∷ []) (sym (add-zero i))
+held-snoc (suc c) i y =
+    let e : i + 1 + c ≡ i + suc c = omega arith in
+    ap (λ (es : List Entry). at3 y i ∷ es) (held-snoc c (i + 1) y ∙ ap (λ (k : ℕ). held c (i + 1) y ++ (at3 y k ∷ [])) e)
+
+held-under : (f i a : ℕ) (y : List ℕ) → ((j : ℕ) → j < f → at3 y (i + j) .address < a) → Under a (held f i y)
+unfolding held
+held-under zero i a y h = tt
+held-under (suc f) i a y h = (
+  subst (λ (k : ℕ). at3 y k .address < a) (add-zero i) (h 0 (omega arith)),
+  held-under f (i + 1) a y (λ j l. let e : i + suc j ≡ i + 1 + j = omega arith in subst (λ (k : ℕ). at3 y k .address < a) e (h (suc j) (omega arith))),
+)
+
+pub merged-alone : (d k c : ℕ) (y : List ℕ) → Segment d k c y → (n : ℕ) → n ≤ c → merged n y [] ≡ held n 0 y
+unfolding merged held
+merged-alone d k c y s zero h = refl
+merged-alone d k c y s (suc n) h =
+    ap (insertE (at3 y n)) (merged-alone d k c y s n (omega arith))
+    ∙ insert-end (at3 y n) (held n 0 y)
+    (held-under n 0 (at3 y n .address) y (λ j l. subst (λ (m : ℕ). at3 y m .address < at3 y n .address) (sym (zero-add j)) (s .up j n l (omega arith))))
+    ∙ ap (λ (m : ℕ). held n 0 y ++ (at3 y m ∷ [])) (sym (zero-add n)) ∙ sym (held-snoc n 0 y)
 
 insert-snoc : (y z : Entry) (es : List Entry) → y .address ≤ z .address → insertE y (es ++ (z ∷ [])) ≡ insertE y es ++ (z ∷ [])
 unfolding insertE

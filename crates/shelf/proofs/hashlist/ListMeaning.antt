@@ -1,23 +1,24 @@
 -- What a list says of each block address, of a list that passes number 3, of one whose entries of a stripe were dropped or replaced, and of
 -- one that is all none. What is above the list cites these laws.
 -- Assumes nothing.
-use mathlib.Core.Bool.{true, not, _&&_}
+use mathlib.Core.Bool.{Bool, true, false, not, _&&_, and-true}
 use mathlib.Core.List.{List, [], _∷_}
 use mathlib.Core.Logic.{⊎-elim, _≢_}
 use mathlib.Core.Path.{_≡_, refl, sym, ap, ap₂, _∙_, subst}
-use Prim.Native.Nat.{ℕ, _+_, _*_, _/_, _≤_, _<_}
-use native.Mathlib.Nat.{mul-comm}
+use Prim.Native.Nat.{ℕ, zero, suc, _+_, _*_, _/_, _≤_, _<_}
+use native.Mathlib.Nat.{mul-comm, zero-add}
 use native.Mathlib.Omega.{arith}
 use lib.Dec.{eqb, ltb}
 use lib.ListN.{length, replicate}
-use borrow.Author.Tests.{eq-eqb, lt-ltb, le-ltb, eqb-true, ltb-true, ltb-false}
+use borrow.Author.Tests.{eq-eqb, ne-eqb, lt-ltb, le-ltb, eqb-true, ltb-true, ltb-false}
 use Rattle.shelf.specs.declared.record.Geometry.{Geometry}
-use Rattle.shelf.specs.Counting.{choose, count, total}
+use Rattle.shelf.specs.Counting.{choose, bit, count, total}
 use Rattle.shelf.specs.Words.{words}
-use Rattle.shelf.specs.HashList.{noneWord, addressAt, oriAt, lookup, isRecord, allListed, goodStripe, valid, Passing, Entry, entry, entryAt, said, entries}
+use Rattle.shelf.specs.HashList.{noneWord, addressAt, oriAt, lookup, isRecord, allListed, goodStripe, valid, Passing, Entry, entry, entryAt, said, entriesFrom, entries, listedIn, staleIn}
 use Rattle.shelf.specs.Rewriting.{encode, putAll, dropStripe, merged, at3, Segment, Rewritten}
-use Rattle.shelf.proofs.general.TestLaws.{either-way, choose-true, choose-false}
+use Rattle.shelf.proofs.general.TestLaws.{either-way, and-false, choose-true, choose-false}
 use Rattle.shelf.proofs.general.AddressLaws.{stripe-of}
+use Rattle.shelf.proofs.general.CountLaws.{count-ext, count-zero, none-any, none-count, total-at, total-zero}
 use Rattle.shelf.proofs.hashlist.ChainLaws.{placeOf, length-putN, lookup-encode}
 use Rattle.shelf.proofs.general.WalkLaws.{countFrom, countFrom-rows}
 use Rattle.shelf.proofs.hashlist.PlaceLaws.{listed-each}
@@ -33,6 +34,17 @@ passing w g next listed v = record { next = next; listed = listed; passing = v }
 pub length-encode : (g : Geometry) (es : List Entry) → 0 < g .h → g .e ≤ 4096 → length (encode g es) ≡ g .h + 4 * g .e
 unfolding encode
 length-encode g es hpos small = length-putN (g .h) (g .e) hpos small 0 es
+
+-- an entry more, of stripe k or of another
+length-dropped : (d k : ℕ) (x : Entry) (xs : List Entry)
+    → length (dropStripe d k (x ∷ xs)) ≡ bit (not (eqb (x .address / d) k)) + length (dropStripe d k xs)
+unfolding dropStripe bit
+length-dropped d k x xs = go (eqb (x .address / d) k)
+  where
+    go : (t : Bool) → length {A = Entry} (elim t as (λ _. List Entry) [ true ↦ dropStripe d k xs | false ↦ x ∷ dropStripe d k xs ])
+        ≡ bit (not t) + length (dropStripe d k xs)
+    go true = sym (zero-add (length (dropStripe d k xs)))
+    go false = omega arith
 
 -- ---- a list that passes number 3
 
@@ -118,6 +130,62 @@ module _ (w : List ℕ) (g : Geometry) (next listed : ℕ) (hpos : 0 < g .h) (dp
       countFrom-rows (g .s) (g .d) (λ a. ltb (lookup w g a) (g .e))
       ∙ ap (λ (n : ℕ). countFrom n (λ a. ltb (lookup w g a) (g .e)) 0) (mul-comm (g .s) (g .d))
       ∙ sym (length-entries (g .d * g .s) w g 0) ∙ entries-count w g next listed hpos dpos small v
+
+  -- where the count is 0 there are no entries, no block is found, and no stripe is stale
+  pub nothing-listed : listed ≡ 0 → entries w g ≡ []
+  nothing-listed z = empty (entries w g) (entries-count w g next listed hpos dpos small v ∙ z)
+    where
+      empty : (es : List Entry) → length es ≡ 0 → es ≡ []
+      empty [] e = refl
+      empty (x ∷ xs) e = absurd (omega (arith, e))
+
+  pub nothing-found : listed ≡ 0 → (x i : ℕ) → x < g .s → i < g .d → ltb (lookup w g (x * g .d + i)) (g .e) ≡ false
+  nothing-found z x i hx hi =
+      count-zero (g .d) (λ i. ltb (lookup w g (x * g .d + i)) (g .e))
+      (total-zero (g .s) (λ x. count (g .d) (λ i. ltb (lookup w g (x * g .d + i)) (g .e))) (listed-count ∙ z) x hx) i hi
+
+  pub nothing-stale : listed ≡ 0 → (x : ℕ) → x < g .s → staleIn w g x ≡ false
+  unfolding staleIn
+  nothing-stale z x hx = none-any (g .d) (listedIn w g x) (λ i hi. nothing-found z x i hx hi)
+
+  -- the entries but those of stripe k, address by address
+  kept-from : (k f a : ℕ) → length (dropStripe (g .d) k (entriesFrom f w g a)) ≡ countFrom f (λ b. ltb (lookup w g b) (g .e) && not (eqb (b / g .d) k)) a
+  unfolding entriesFrom countFrom dropStripe bit
+  kept-from k zero a = refl
+  kept-from k (suc f) a = go (ltb (lookup w g a) (g .e)) refl (kept-from k f (a + 1))
+    where
+      go : (t : Bool) → ltb (lookup w g a) (g .e) ≡ t
+          → length (dropStripe (g .d) k (entriesFrom f w g (a + 1))) ≡ countFrom f (λ b. ltb (lookup w g b) (g .e) && not (eqb (b / g .d) k)) (a + 1)
+          → length (dropStripe (g .d) k (elim t as (λ _. List Entry) [
+            | true ↦ entryAt w g (lookup w g a)
+                ∷ entriesFrom f w g (a + 1)
+            | false ↦ entriesFrom f w g (a + 1)
+          ])) ≡ bit (t && not (eqb (a / g .d) k)) + countFrom f (λ b. ltb (lookup w g b) (g .e) && not (eqb (b / g .d) k)) (a + 1)
+      go true q ih =
+          length-dropped (g .d) k (entryAt w g (lookup w g a)) (entriesFrom f w g (a + 1))
+          ∙ ap₂ (λ (b n : ℕ). bit (not (eqb (b / g .d) k)) + n)
+          (found-address w g next listed hpos dpos small v a (ltb-true (lookup w g a) (g .e) q)) ih
+      go false q ih = ih ∙ sym (zero-add (countFrom f (λ b. ltb (lookup w g b) (g .e) && not (eqb (b / g .d) k)) (a + 1)))
+
+  -- the entries of the other stripes and those of stripe k are all
+  pub kept-count : (k : ℕ) → k < g .s
+      → length (dropStripe (g .d) k (entries w g)) + count (g .d) (λ i. ltb (lookup w g (k * g .d + i)) (g .e)) ≡ listed
+  unfolding entries
+  kept-count k o =
+      let there : ℕ → Bool = λ a. ltb (lookup w g a) (g .e) in
+      let kept : ℕ → Bool = λ a. ltb (lookup w g a) (g .e) && not (eqb (a / g .d) k) in
+      let all : total (g .s) (λ x. count (g .d) (λ i. kept (x * g .d + i))) ≡ length (dropStripe (g .d) k (entriesFrom (g .d * g .s) w g 0)) =
+      countFrom-rows (g .s) (g .d) kept ∙ ap (λ (n : ℕ). countFrom n kept 0) (mul-comm (g .s) (g .d)) ∙ sym (kept-from k (g .d * g .s) 0) in
+      let others =
+      total-at (g .s) (λ x. count (g .d) (λ i. kept (x * g .d + i))) (λ x. count (g .d) (λ i. there (x * g .d + i))) k o
+      (λ x _ ne. count-ext (g .d) (λ i. kept (x * g .d + i)) (λ i. there (x * g .d + i))
+      (λ i l. ap (λ (b : Bool). there (x * g .d + i) && not b) (ne-eqb ((x * g .d + i) / g .d) k (λ q. ne (sym (stripe-of x (g .d) i l) ∙ q)))
+      ∙ and-true (there (x * g .d + i)))) in
+      let none : count (g .d) (λ i. kept (k * g .d + i)) ≡ 0 =
+      none-count (g .d) (λ i. kept (k * g .d + i))
+      (λ i l. ap (λ (b : Bool). there (k * g .d + i) && not b) (eq-eqb ((k * g .d + i) / g .d) k (stripe-of k (g .d) i l))
+      ∙ and-false (there (k * g .d + i))) in
+      omega (arith, all, others, none, listed-count)
 
 -- ---- a list of nones
 

@@ -1,4 +1,4 @@
--- Stale stripes: the lowest, and how many, found by going through the places.
+-- Stale stripes: the lowest, found by going through the places; whether one is stale, by its blocks.
 -- Assumes nothing.
 use mathlib.Core.Bool.{Bool, true, false, not, _&&_}
 use mathlib.Core.List.{List}
@@ -10,13 +10,13 @@ use native.Mathlib.Omega.{arith}
 use lib.Dec.{eqb, ltb}
 use borrow.Author.Tests.{eq-eqb, ne-eqb, lt-ltb, le-ltb, eqb-true, ltb-true, ltb-false}
 use Rattle.shelf.specs.declared.record.Geometry.{Geometry}
-use Rattle.shelf.specs.Counting.{count, any, first}
+use Rattle.shelf.specs.Counting.{any, first}
 use Rattle.shelf.specs.HashList.{addressAt, lookup, valid, staleIn, listedIn}
-use Rattle.shelf.specs.Checking.{lowerStale, leads}
-use Rattle.shelf.proofs.general.TestLaws.{either-way, not-so, false-is, same-bool, and-both, choose-true, choose-false}
+use Rattle.shelf.specs.Checking.{lowerStale}
+use Rattle.shelf.proofs.general.TestLaws.{either-way, not-so, false-is, and-both, choose-true, choose-false}
 use Rattle.shelf.proofs.general.AddressLaws.{stripe-of, index-of, address-is}
-use Rattle.shelf.proofs.general.WalkLaws.{any-turn, any-least, first-is, hits, count-hits}
-use Rattle.shelf.proofs.general.CountLaws.{any-some, count-ext}
+use Rattle.shelf.proofs.general.WalkLaws.{any-turn, any-least, first-is}
+use Rattle.shelf.proofs.general.CountLaws.{any-some}
 use Rattle.shelf.proofs.hashlist.FoundLaws.{found-address, found-sound}
 
 -- ---- the tests of lower_stale
@@ -108,25 +108,7 @@ lowest-turn w g p x y dpos o l e =
     at : ℕ
     at = addressAt w (g .h) p
 
--- ---- the turns of leads_stripe
-
-module _ (w : List ℕ) (g : Geometry) (p a r : ℕ) (q : a ≡ addressAt w (g .h) p) (e : r ≡ lookup w g a) where
-  found-at : lookup w g (addressAt w (g .h) p) ≡ r
-  found-at = sym (e ∙ ap (λ (j : ℕ). lookup w g j) q)
-
-  pub leads-unlisted : r ≢ p → leads w g p ≡ false
-  unfolding leads
-  leads-unlisted n =
-      ap (λ (t : Bool). t && not (any (addressAt w (g .h) p % g .d) (listedIn w g (addressAt w (g .h) p / g .d))))
-      (ne-eqb (lookup w g (addressAt w (g .h) p)) p (λ z. n (sym found-at ∙ z)))
-
-  pub leads-by : (t : Bool) → r ≡ p → any (a % g .d) (listedIn w g (a / g .d)) ≡ t → leads w g p ≡ not t
-  unfolding leads
-  leads-by t n y =
-      ap₂ (λ (b c : Bool). b && not c) (eq-eqb (lookup w g (addressAt w (g .h) p)) p (found-at ∙ n))
-      (ap (λ (j : ℕ). any (j % g .d) (listedIn w g (j / g .d))) (sym q) ∙ y)
-
--- the lower blocks are gone through from the last to the first
+-- ---- the turns of is_stale: the blocks of a stripe are gone through from the last to the first
 pub lower-listed : (w : List ℕ) (g : Geometry) (x k r : ℕ) → 0 < k → r ≡ lookup w g (x * g .d + (k - 1)) → r < g .e
     → any k (listedIn w g x) ≡ true
 lower-listed w g x k r o e l =
@@ -153,87 +135,3 @@ module _ (w : List ℕ) (g : Geometry) (next listed : ℕ) (hpos : 0 < g .h) (dp
       let b : x ≤ addressAt w (g .h) q / g .d = l .least q (omega arith) (ap (λ (j : ℕ). lookup w g j) a) in
       let s : addressAt w (g .h) q / g .d ≡ z = ap (λ (j : ℕ). j / g .d) a ∙ stripe-of z (g .d) (r .index) (r .under) in
       omega arith))
-
-  -- what a place that leads is
-  led-at : (q : ℕ) → leads w g q ≡ true → lookup w g (addressAt w (g .h) q) ≡ q
-  unfolding leads
-  led-at q t =
-      eqb-true (lookup w g (addressAt w (g .h) q)) q
-      (and-both (eqb (lookup w g (addressAt w (g .h) q)) q)
-      (not (any (addressAt w (g .h) q % g .d) (listedIn w g (addressAt w (g .h) q / g .d)))) t .0)
-
-  led-first : (q : ℕ) → leads w g q ≡ true → any (addressAt w (g .h) q % g .d) (listedIn w g (addressAt w (g .h) q / g .d)) ≡ false
-  unfolding leads
-  led-first q t =
-      not-not (any (addressAt w (g .h) q % g .d) (listedIn w g (addressAt w (g .h) q / g .d)))
-      (and-both (eqb (lookup w g (addressAt w (g .h) q)) q)
-      (not (any (addressAt w (g .h) q % g .d) (listedIn w g (addressAt w (g .h) q / g .d)))) t .1)
-    where
-      not-not : (t : Bool) → not t ≡ true → t ≡ false
-      not-not true e = absurd (not-so (sym e))
-      not-not false e = refl
-
-  -- of two places of one stripe, the one with the lower index does not let the other lead
-  led-low : (q r : ℕ) → q < g .e → leads w g q ≡ true → leads w g r ≡ true → addressAt w (g .h) q / g .d ≡ addressAt w (g .h) r / g .d
-      → addressAt w (g .h) q % g .d < addressAt w (g .h) r % g .d → ⊥
-  led-low q r o s t e l =
-      let a : ℕ = addressAt w (g .h) q in
-      let b : ℕ = addressAt w (g .h) r in
-      let z : b / g .d * g .d + a % g .d ≡ a = ap (λ (x : ℕ). x * g .d + a % g .d) (sym e) ∙ address-is a (g .d) in
-      not-so
-      (sym (any-some (b % g .d) (listedIn w g (b / g .d)) (a % g .d) l
-      (lt-ltb (lookup w g (b / g .d * g .d + a % g .d)) (g .e) (rw z (rw (led-at q s) o)))) ∙ led-first r t)
-
-  led-one : (q r : ℕ) → q < r → r < g .e → leads w g q ≡ true → leads w g r ≡ true
-      → addressAt w (g .h) q / g .d ≡ addressAt w (g .h) r / g .d → ⊥
-  led-one q r o u s t e =
-      let a : ℕ = addressAt w (g .h) q in
-      let b : ℕ = addressAt w (g .h) r in
-      ⊎-elim
-      (λ k. led-low q r (omega arith) s t e (ltb-true (a % g .d) (b % g .d) k))
-      (λ k.
-      ⊎-elim
-      (λ j. led-low r q u t s (sym e) (ltb-true (b % g .d) (a % g .d) j))
-      (λ j.
-      let m : a % g .d ≡ b % g .d =
-      (let x = ltb-false (a % g .d) (b % g .d) k in let y = ltb-false (b % g .d) (a % g .d) j in omega arith) in
-      let same : a ≡ b = sym (address-is a (g .d)) ∙ ap₂ (λ (x y : ℕ). x * g .d + y) e m ∙ address-is b (g .d) in
-      let z : q ≡ r = sym (led-at q s) ∙ ap (λ (x : ℕ). lookup w g x) same ∙ led-at r t in
-      omega arith)
-      (either-way (ltb (b % g .d) (a % g .d))))
-      (either-way (ltb (a % g .d) (b % g .d)))
-
-  led-below : (q : ℕ) → q < g .e → leads w g q ≡ true → addressAt w (g .h) q / g .d < g .s
-  led-below q o t =
-      let a : ℕ = addressAt w (g .h) q in
-      let l : addressAt w (g .h) (lookup w g a) / g .d < g .s =
-      found-sound w g next listed hpos dpos small v a (rw (led-at q t) o) .entry-is .low in
-      subst (λ (p : ℕ). addressAt w (g .h) p / g .d < g .s) (led-at q t) l
-
-  -- the stripes that have a place that leads are the stale ones
-  led-stale : (x : ℕ) → hits (g .s) (leads w g) (λ q. addressAt w (g .h) q / g .d) (g .e) x ≡ staleIn w g x
-  unfolding staleIn leads
-  led-stale x =
-      same-bool (hits (g .s) (leads w g) (λ q. addressAt w (g .h) q / g .d) (g .e) x) (staleIn w g x)
-      (λ t.
-      let r = any-least (g .e) (λ q. leads w g q && eqb (addressAt w (g .h) q / g .d) x) t in
-      let b = and-both (leads w g (r .index)) (eqb (addressAt w (g .h) (r .index) / g .d) x) (r .is) in
-      subst (λ (y : ℕ). staleIn w g y ≡ true) (eqb-true (addressAt w (g .h) (r .index) / g .d) x (b .1))
-      (stale-at w g (r .index) dpos (r .under) (led-at (r .index) (b .0))))
-      (λ t.
-      let r = any-least (g .d) (listedIn w g x) t in
-      let there : lookup w g (x * g .d + r .index) < g .e = ltb-true (lookup w g (x * g .d + r .index)) (g .e) (r .is) in
-      let q : ℕ = lookup w g (x * g .d + r .index) in
-      let a : addressAt w (g .h) q ≡ x * g .d + r .index = found-address w g next listed hpos dpos small v (x * g .d + r .index) there in
-      let s : addressAt w (g .h) q / g .d ≡ x = ap (λ (j : ℕ). j / g .d) a ∙ stripe-of x (g .d) (r .index) (r .under) in
-      let i : addressAt w (g .h) q % g .d ≡ r .index = ap (λ (j : ℕ). j % g .d) a ∙ index-of x (g .d) (r .index) (r .under) in
-      let low : any (addressAt w (g .h) q % g .d) (listedIn w g (addressAt w (g .h) q / g .d)) ≡ false =
-      ap₂ (λ (k y : ℕ). any k (listedIn w g y)) i s ∙ r .none-below in
-      any-some (g .e) (λ q. leads w g q && eqb (addressAt w (g .h) q / g .d) x) q there
-      (ap₂ _&&_ (ap₂ (λ (b c : Bool). b && not c) (eq-eqb (lookup w g (addressAt w (g .h) q)) q (ap (λ (j : ℕ). lookup w g j) a)) low)
-      (eq-eqb (addressAt w (g .h) q / g .d) x s)))
-
-  pub led-count : count (g .e) (leads w g) ≡ count (g .s) (staleIn w g)
-  led-count =
-      sym (count-hits (g .s) (leads w g) (λ q. addressAt w (g .h) q / g .d) (g .e) led-below led-one)
-      ∙ count-ext (g .s) (hits (g .s) (leads w g) (λ q. addressAt w (g .h) q / g .d) (g .e)) (staleIn w g) (λ x o. led-stale x)

@@ -1,32 +1,33 @@
--- The numbers of start, fail and new log, as their functions try them: rows 1 to 3 first, then the rows of the call.
+-- The numbers of the calls, as their functions try them: rows 1 to 3 first, then the rows of the call.
 -- Assumes nothing.
 use mathlib.Core.List.{List}
 use mathlib.Core.Logic.{_≢_}
-use mathlib.Core.Bool.{true}
+use mathlib.Core.Bool.{Bool, true}
 use mathlib.Core.Path.{_≡_, sym, ap, _∙_}
 use Prim.Native.Nat.{ℕ, _+_, _≤_, _<_}
 use native.Mathlib.Omega.{arith}
 use lib.Dec.{ltb}
 use borrow.Author.Tests.{ltb-false}
 use Rattle.shelf.specs.Status.{fail, newLog, badMember, logSound, row, codeOf}
-use Rattle.shelf.specs.Lent.{flagAt, inputRows, triesList, listedBy, numberOf}
+use Rattle.shelf.specs.Lent.{flagAt, badMeasures, inputRows, triesList, listedBy, numberOf}
 use Rattle.shelf.specs.Records.{newLogRows}
 use Rattle.shelf.specs.declared.record.Shelf.{Shelf}
-use Rattle.shelf.proofs.numbers.InputLaws.{inputs-pass, inputs-then, inputs-refuse}
+use Rattle.shelf.proofs.numbers.InputLaws.{in-range, inputs-pass, inputs-then, inputs-refuse}
 use Rattle.shelf.proofs.numbers.TableRows.{row-zero}
 use Rattle.shelf.proofs.hashlist.ListMarks.{marks-listed}
 
 module _ (r : Shelf) (na nl : ℕ) (l : List ℕ) where
   -- what rows 1 to 3 give is the call's number, where it is not 0
-  pub code-refused : (rest code : ℕ) → code ≡ inputRows r na nl l true 0 → code ≢ 0 → code ≡ inputRows r na nl l true rest
-  code-refused rest code e z = e ∙ inputs-refuse r na nl l rest (λ q. z (e ∙ q))
+  pub code-refused : (three : Bool) (rest code : ℕ) → code ≡ inputRows r na nl l three 0 → code ≢ 0 → code ≡ inputRows r na nl l three rest
+  code-refused three rest code e z = e ∙ inputs-refuse r na nl l three rest (λ q. z (e ∙ q))
 
   -- else it is what the rows of the call give
-  pub code-passed : (rest code : ℕ) → inputRows r na nl l true 0 ≡ 0 → code ≡ rest → code ≡ inputRows r na nl l true rest
-  code-passed rest code z e = e ∙ sym (inputs-then r na nl l rest z)
+  pub code-passed : (three : Bool) (rest code : ℕ) → inputRows r na nl l three 0 ≡ 0 → code ≡ rest → code ≡ inputRows r na nl l three rest
+  code-passed three rest code z e = e ∙ sym (inputs-then r na nl l three rest z)
 
-  pub range-passed : inputRows r na nl l true 0 ≡ 0 → r .geometry .d ≤ 16
-  range-passed z = inputs-pass r na nl l 0 z .0 .range .d-most
+  pub range-passed : (three : Bool) → inputRows r na nl l three 0 ≡ 0 → r .geometry .d ≤ 16
+  unfolding inputRows
+  range-passed three z = in-range (r .geometry) (row-zero 1 (badMeasures (r .geometry)) _ (λ z. omega arith) z .0) .d-most
 
   -- the record counts the listed blocks
   pub new-log-is : inputRows r na nl l true 0 ≡ 0 → newLogRows r ≡ codeOf (r .geometry) (flagAt r) (r .mode) (listedBy (r .geometry) l) newLog

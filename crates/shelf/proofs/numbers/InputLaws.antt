@@ -177,24 +177,24 @@ inputs-pass r na nl l rest e =
     )
 
 -- the rows after 1 to 3 are tried where those pass, and only there
-pub inputs-then : (r : Shelf) (na nl : ℕ) (l : List ℕ) (rest : ℕ) → inputRows r na nl l true 0 ≡ 0 → inputRows r na nl l true rest ≡ rest
+pub inputs-then : (r : Shelf) (na nl : ℕ) (l : List ℕ) (three : Bool) (rest : ℕ) → inputRows r na nl l three 0 ≡ 0 → inputRows r na nl l three rest ≡ rest
 unfolding inputRows
-inputs-then r na nl l rest e =
+inputs-then r na nl l three rest e =
     let a = row-zero 1 (badMeasures (r .geometry)) _ (λ z. omega arith) e in
     let b = row-zero 1 (badRecord r) _ (λ z. omega arith) (a .1) in
     let c = row-zero 2 (badLengths (r .geometry) na nl (length l)) _ (λ z. omega arith) (b .1) in
-    let d = row-zero 3 (badList r l) 0 (λ z. omega arith) (c .1) in
+    let d = row-zero 3 (three && badList r l) 0 (λ z. omega arith) (c .1) in
     sym (row-pass 1 (badMeasures (r .geometry)) _ rest (a .0) (row-pass 1 (badRecord r) _ rest (b .0)
-    (row-pass 2 (badLengths (r .geometry) na nl (length l)) _ rest (c .0) (row-pass 3 (badList r l) rest rest (d .0) refl))))
+    (row-pass 2 (badLengths (r .geometry) na nl (length l)) _ rest (c .0) (row-pass 3 (three && badList r l) rest rest (d .0) refl))))
 
-pub inputs-refuse : (r : Shelf) (na nl : ℕ) (l : List ℕ) (rest : ℕ) → inputRows r na nl l true 0 ≢ 0
-    → inputRows r na nl l true 0 ≡ inputRows r na nl l true rest
+pub inputs-refuse : (r : Shelf) (na nl : ℕ) (l : List ℕ) (three : Bool) (rest : ℕ) → inputRows r na nl l three 0 ≢ 0
+    → inputRows r na nl l three 0 ≡ inputRows r na nl l three rest
 unfolding inputRows
-inputs-refuse r na nl l rest e =
+inputs-refuse r na nl l three rest e =
     sym (row-same 1 (badMeasures (r .geometry)) _ _ (λ z. omega arith)
     (row-same 1 (badRecord r) _ _ (λ z. omega arith)
     (row-same 2 (badLengths (r .geometry) na nl (length l)) _ _ (λ z. omega arith)
-    (row-same 3 (badList r l) 0 rest (λ z. omega arith) (λ z. absurd (z refl))))) e)
+    (row-same 3 (three && badList r l) 0 rest (λ z. omega arith) (λ z. absurd (z refl))))) e)
 
 -- where they pass, a call's number is that of its own rows
 pub passed-number : (r : Shelf) (na nl : ℕ) (l : List ℕ) → Passed r na nl l → (c : Call)

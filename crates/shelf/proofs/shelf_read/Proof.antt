@@ -3,6 +3,7 @@
 use mathlib.Core.Path.{_≡_, refl, sym}
 use lib.ListN.{length}
 use lib.Seq.{length-take-le}
+use Rattle.stripe.proofs.Laws.{no-products}
 use Rattle.shelf.proofs.lent.LeavesLaws.{refused-answered}
 use Rattle.shelf.proofs.calls.ServedLaws.{read-ready, read-answered}
 use Rattle.shelf.specs.Lent.{lent}
@@ -31,21 +32,24 @@ slice-aggregate-read-blocks c =
     let a = c .before .before .before .before .before .before .before .before .before in
     sym (length-take-le (a .args .shelf .geometry .b) _ ((read-ready (a .args .shelf) (a .args .array .now) (a .args .log .now) (a .args .list .now) (a .args .address) (a .args .count) (length (a .args .out .now)) (c .before .before .before .read-code .result) (c .before .before .before .read-code .ensures) (c .before .before .if1 .left)) .0 .listing .range .b-most))
 
+slice-aggregate-read-blocks-2 : tie.Need-slice-aggregate-read-blocks-2
+slice-aggregate-read-blocks-2 c = search needs
+
 read-blocks-requires : tie.Need-read-blocks-requires
 read-blocks-requires c κs =
-    let a = c .before .before .before .before .before .before .before .before .before in
-    let y = read-ready (a .args .shelf) (a .args .array .now) (a .args .log .now) (a .args .list .now) (a .args .address) (a .args .count) (length (a .args .out .now)) (c .before .before .before .read-code .result) (c .before .before .before .read-code .ensures) (c .before .before .if1 .left) in
-    (y .0, (y .1 .0, (y .1 .1, length-take-le (a .args .shelf .geometry .b) _ (y .0 .listing .range .b-most))))
+    let a = c .before .before .before .before .before .before .before .before .before .before in
+    let y = read-ready (a .args .shelf) (a .args .array .now) (a .args .log .now) (a .args .list .now) (a .args .address) (a .args .count) (length (a .args .out .now)) (c .before .before .before .before .read-code .result) (c .before .before .before .before .read-code .ensures) (c .before .before .before .if1 .left) in
+    (y .0, (y .1 .0, (y .1 .1, (length-take-le (a .args .shelf .geometry .b) _ (y .0 .listing .range .b-most), no-products))))
 
 same-length : tie.Need-same-length
 same-length c = search needs
 
 returns-2 : tie.Need-returns-2
 returns-2 c =
-    let a = c .before .before .before .before .before .before .before .before .before .before .before .before .before in
+    let a = c .before .before .before .before .before .before .before .before .before .before .before .before .before .before .before in
     let long : length (a .args .shelf .failed) ≡ 19 = search needs in (
-      read-answered (a .args .shelf) (a .args .array .now) (a .args .log .now) (a .args .list .now) long (a .args .address) (a .args .count) (length (a .args .out .now)) (c .before .before .before .before .before .before .before .read-code .result) (c .before .before .before .before .before .before .before .read-code .ensures) (c .before .before .before .before .before .before .if1 .left),
-      (λ _. c .before .before .before .read-blocks .ensures, λ z. absurd (z refl)),
+      read-answered (a .args .shelf) (a .args .array .now) (a .args .log .now) (a .args .list .now) long (a .args .address) (a .args .count) (length (a .args .out .now)) (c .before .before .before .before .before .before .before .before .before .read-code .result) (c .before .before .before .before .before .before .before .before .before .read-code .ensures) (c .before .before .before .before .before .before .before .before .if1 .left),
+      (λ _. c .before .before .before .before .read-blocks .ensures .0, λ z. absurd (z refl)),
     )
 
 pub shelf-read-spec : {M : Type 1} → statement M
@@ -56,6 +60,7 @@ shelf-read-spec =
     returns
     array-borrow-prefix-work
     slice-aggregate-read-blocks
+    slice-aggregate-read-blocks-2
     read-blocks-requires
     same-length
     returns-2)

@@ -4,7 +4,8 @@
 -- number that the book gives; no block of an accepted read, and none of a data disk that an accepted rebuild filled, differs from the last block
 -- written at that address (zeros if none); and a read or rebuild that no earlier number refuses is withheld exactly when a data block that it must
 -- give has its own disk and the log both failed while that block's stripe awaits resynchronisation. `specs/Sequence.antt` has the words of the
--- claim, `specs/Lent.antt` what a call promises.
+-- claim, `specs/Lent.antt` what a call promises (`Answered`). The contracts of the eight calls in `src/lib.rt` are these promises, and that of read
+-- promises the buffer too (`readBuffer`), so the claim is one of the library.
 -- Assumes nothing.
 use mathlib.Core.Bool.{false}
 use mathlib.Core.List.{List, [], _∷_}

@@ -1,14 +1,15 @@
 -- `shelf::read::original_number` meets its contract.
 -- Assumes nothing.
 use mathlib.Core.Logic.{⊎-elim}
-use mathlib.Core.Path.{_≡_, sym, _∙_}
+use mathlib.Core.Path.{_≡_, ap, sym, _∙_}
+use Prim.Native.Nat.{ℕ, _+_, _*_}
 use Rattle.shelf.specs.Members.{addressOf}
 use Rattle.shelf.specs.Words.{words}
 use Rattle.shelf.specs.HashList.{noneWord, said}
 use Rattle.shelf.proofs.calls.ServedLaws.{number-log, number-array, address-low}
 use Rattle.shelf.proofs.numbers.InputLaws.{array-small}
-use borrow.Author.Needs.{needs}
 use native.Mathlib.Omega.{arith}
+use borrow.Author.Needs.{needs}
 use Rattle.shelf.proofs.read.original_number.Statement.{statement}
 use Rattle.shelf.proofs.read.original_number.Tie as tie
 
@@ -21,20 +22,25 @@ add-ori c = omega (arith, address-low (c .before .before .before .before .before
 ori-requires : tie.Need-ori-requires
 ori-requires c κs = search needs
 
-add-result : tie.Need-add-result
-add-result c = search needs
+array-members-requires : tie.Need-array-members-requires
+array-members-requires c κs = search needs
 
 mul-result : tie.Need-mul-result
-mul-result c = omega (arith, array-small (c .before .before .before .before .before .before .before .before .before .args .shelf .geometry) (c .before .before .before .before .before .before .before .before .before .pre .0 .range) .0)
+mul-result c =
+    let a = c .before .before .before .before .before .before .before .before .before in
+    rw (c .before .array-members .ensures) (omega (arith, array-small (a .args .shelf .geometry) (a .pre .0 .range) .0))
 
-add-result-2 : tie.Need-add-result-2
-add-result-2 c = omega (arith, array-small (c .before .before .before .before .before .before .before .before .before .args .shelf .geometry) (c .before .before .before .before .before .before .before .before .before .pre .0 .range) .0, c .before .before .before .ori .ensures .1)
+add-result : tie.Need-add-result
+add-result c =
+    let a = c .before .before .before .before .before .before .before .before .before in
+    rw (c .before .array-members .ensures) (omega (arith, array-small (a .args .shelf .geometry) (a .pre .0 .range) .0, c .before .before .before .ori .ensures .1))
 
 returns : tie.Need-returns
 returns c =
     let a = c .before .before .before .before .before .before .before .before .before .args in
     let at-ori = c .before .before .before in
-    number-log (a .shelf .geometry) (a .list .now) (a .x) (a .i) (at-ori .before .before .if1 .taken) (at-ori .ori .result) (at-ori .ori .ensures .0) (c .before .before .if2 .taken)
+    ap (λ (n : ℕ). n * a .shelf .geometry .s + at-ori .ori .result) (c .before .array-members .ensures)
+    ∙ number-log (a .shelf .geometry) (a .list .now) (a .x) (a .i) (at-ori .before .before .if1 .taken) (at-ori .ori .result) (at-ori .ori .ensures .0) (c .before .before .if2 .taken)
 
 block-number-requires : tie.Need-block-number-requires
 block-number-requires c κs = search needs
@@ -53,9 +59,9 @@ original-number-spec =
     mul-ori
     add-ori
     ori-requires
-    add-result
+    array-members-requires
     mul-result
-    add-result-2
+    add-result
     returns
     block-number-requires
     returns-2)

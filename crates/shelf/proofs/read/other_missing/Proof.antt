@@ -2,11 +2,11 @@
 -- Assumes nothing.
 use mathlib.Core.Logic.{⊎-elim}
 use mathlib.Core.Path.{_≡_, sym, _∙_, subst}
-use Prim.Native.Nat.{ℕ, _+_, _-_, _≤_, zero-le}
+use Prim.Native.Nat.{ℕ, _+_, _-_, _≤_, _<_, zero-le}
 use Rattle.shelf.proofs.calls.ServedLaws.{NoneBelow, below-zero, below-self, below-step, other-found, other-none}
 use Rattle.shelf.specs.Reading.{missingBy}
-use borrow.Author.Needs.{needs}
 use native.Mathlib.Omega.{arith}
+use borrow.Author.Needs.{needs}
 use Rattle.shelf.proofs.read.other_missing.Statement.{statement}
 use Rattle.shelf.proofs.read.other_missing.Tie as tie
 
@@ -16,8 +16,8 @@ Inv-loop shelf list x i roles n₀ n = (n ≤ roles) × NoneBelow (missingBy she
 abbrev μ-loop : tie.MeasureT-loop
 μ-loop shelf list x i roles n₀ n = roles - n
 
-add-roles : tie.Need-add-roles Inv-loop μ-loop
-add-roles c = search needs
+array-members-requires : tie.Need-array-members-requires Inv-loop μ-loop
+array-members-requires c κs = search needs
 
 loop-holds : tie.Need-loop-holds Inv-loop μ-loop
 loop-holds c =
@@ -25,13 +25,16 @@ loop-holds c =
     (zero-le, below-zero (missingBy (a .shelf) (a .list .now) (a .x)) (a .i))
 
 is-missing-requires : tie.Need-is-missing-requires Inv-loop μ-loop
-is-missing-requires c κs = search needs
+is-missing-requires c κs =
+    let a = c .before .before .before .before .before .before in
+    (a .pre .0, (a .pre .1 .0, omega (arith, c .before .before .before .array-members .ensures)))
 
 returns : tie.Need-returns Inv-loop μ-loop
 returns c =
     let a = c .before .before .before .before .before .before .before .before .args in
     let at-loop = c .before .before .before .before .loop in
-    other-found (a .shelf .geometry) (missingBy (a .shelf) (a .list .now) (a .x)) (a .i) (at-loop .n) (omega arith) (at-loop .inv .1) (sym (c .before .is-missing .ensures) ∙ c .if2 .taken) (c .before .before .if1 .taken)
+    let low : at-loop .n < a .shelf .geometry .d + 2 = omega (arith, c .before .before .before .before .before .array-members .ensures, c .before .before .before .loop-test .taken) in
+    other-found (a .shelf .geometry) (missingBy (a .shelf) (a .list .now) (a .x)) (a .i) (at-loop .n) low (at-loop .inv .1) (sym (c .before .is-missing .ensures) ∙ c .if2 .taken) (c .before .before .if1 .taken)
 
 add-n : tie.Need-add-n Inv-loop μ-loop
 add-n c = search needs
@@ -53,7 +56,7 @@ returns-2 : tie.Need-returns-2 Inv-loop μ-loop
 returns-2 c =
     let a = c .before .before .before .before .before .args in
     let at-loop = c .before .loop in
-    let done : at-loop .n ≡ a .shelf .geometry .d + 2 = omega arith in
+    let done : at-loop .n ≡ a .shelf .geometry .d + 2 = omega (arith, c .before .before .array-members .ensures) in
     other-none (a .shelf .geometry) (missingBy (a .shelf) (a .list .now) (a .x)) (a .i) (subst (λ (k : ℕ). NoneBelow (missingBy (a .shelf) (a .list .now) (a .x)) (a .i) k) done (at-loop .inv .1))
 
 pub other-missing-spec : {M : Type 1} → statement M
@@ -62,7 +65,7 @@ other-missing-spec =
     (tie.spec
     Inv-loop
     μ-loop
-    add-roles
+    array-members-requires
     loop-holds
     is-missing-requires
     returns

@@ -6,6 +6,7 @@ use native.Mathlib.Omega.{arith}
 use lib.ListN.{length}
 use borrow.Author.Needs.{needs}
 use Rattle.stripe.proofs.RecoverLaws.{stripe-long, gathers, data-put}
+use Rattle.stripe.proofs.RowLaws.{no-products}
 use Rattle.stripe.proofs.BlockLaws.{fits}
 use Rattle.stripe.proofs.recover.recover_one.Statement.{statement}
 use Rattle.stripe.proofs.recover.recover_one.Tie as tie
@@ -16,19 +17,22 @@ slice-aggregate-solve c = search needs
 add-solve : tie.Need-add-solve
 add-solve c = search needs
 
+slice-aggregate-solve-2 : tie.Need-slice-aggregate-solve-2
+slice-aggregate-solve-2 c = search needs
+
 solve-requires : tie.Need-solve-requires
 solve-requires c κs =
-    let start = c .before .before .before .before .before .before in
+    let start = c .before .before .before .before .before .before .before in
     let a = start .args in
     let ok = start .pre .0 in
-    (gathers (a .d) (a .b) (a .stripe .now) (a .work .now) (a .ns .now) ok _ (ok .working), start .pre .1)
+    (gathers (a .d) (a .b) (a .stripe .now) (a .work .now) (a .ns .now) ok _ (ok .working), (no-products, start .pre .1))
 
 copy-block-requires : tie.Need-copy-block-requires
 copy-block-requires c κs =
-    let start = c .before .before .before .before .before .before .before .before .before .before .before in
+    let start = c .before .before .before .before .before .before .before .before .before .before .before .before .before in
     let a = start .args in
     let ok = start .pre .0 in
-    let len : length (c .before .before .before .before .solve .last .1 .1 .1 .1 .0) ≡ a .b = c .before .before .before .work .given ∙ ok .working in
+    let len : length (c .before .before .before .before .before .solve .last .1 .1 .1 .1 .0) ≡ a .b = c .before .before .before .before .work .given ∙ ok .working in
     let low : a .x < a .d = start .pre .1 in
     (omega (arith, len), fits (a .x) (a .d + 2) (a .b) (a .stripe .now) (stripe-long (a .d) (a .b) (a .stripe .now) (a .work .now) (a .ns .now) ok) (omega arith))
 
@@ -40,9 +44,9 @@ same-length-2 c = search needs
 
 returns : tie.Need-returns
 returns c =
-    let start = c .before .before .before .before .before .before .before .before .before .before .before .before .before .before in
+    let start = c .before .before .before .before .before .before .before .before .before .before .before .before .before .before .before .before in
     let a = start .args in
-    data-put (a .d) (a .b) (a .stripe .now) (a .work .now) (a .ns .now) (start .pre .0) (a .x) (a .y) _ _ (start .pre .1) (c .before .before .before .before .before .before .before .solve .ensures) (c .before .before .copy-block .ensures)
+    data-put (a .d) (a .b) (a .stripe .now) (a .work .now) (a .ns .now) (start .pre .0) (a .x) (a .y) _ _ (start .pre .1) (c .before .before .before .before .before .before .before .before .solve .ensures .0) (c .before .before .copy-block .ensures)
 
 pub recover-one-spec : {M : Type 1} → statement M
 recover-one-spec =
@@ -50,6 +54,7 @@ recover-one-spec =
     (tie.spec
     slice-aggregate-solve
     add-solve
+    slice-aggregate-solve-2
     solve-requires
     copy-block-requires
     same-length

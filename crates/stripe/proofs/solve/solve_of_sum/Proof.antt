@@ -13,17 +13,20 @@ gather-weighted-requires c κs = search needs
 
 divide-requires : tie.Need-divide-requires
 divide-requires c κs =
-    let pre = c .before .before .before .before .before .before .before .before .before .pre in
-    (gathers-with _ (c .before .before .work .given ∙ pre .0 .working) (pre .0), (pre .1 .0, omega (arith, pre .1 .1)))
+    let pre = c .before .before .before .before .before .before .before .before .before .before .before .pre in
+    (gathers-with _ (c .before .before .before .work .given ∙ pre .0 .working) (pre .0), (pre .1 .0, (pre .1 .1 .0, omega (arith, pre .1 .1 .1))))
 
 same-length : tie.Need-same-length
 same-length c = search needs
 
+same-length-2 : tie.Need-same-length-2
+same-length-2 c = search needs
+
 returns : tie.Need-returns
 returns c =
-    let a = c .before .before .before .before .before .before .before .before .before .before .before .before .args in
-    of-sum (a .ns .now) (a .b) (a .array .now ++ a .log .now) _ _ (a .d) (a .x) (a .y) (c .before .before .before .before .before .before .gather-weighted .ensures) (c .before .before .divide .ensures)
+    let a = c .before .before .before .before .before .before .before .before .before .before .before .before .before .before .before .before .args in
+    (of-sum (a .ns .now) (a .b) (a .array .now ++ a .log .now) _ _ (a .d) (a .x) (a .y) (c .before .before .before .before .before .before .before .before .before .gather-weighted .ensures) (c .before .before .before .before .divide .ensures .0), c .before .before .before .before .divide .ensures .1)
 
 pub solve-of-sum-spec : {M : Type 1} → statement M
 solve-of-sum-spec =
-    tie.close (tie.spec gather-weighted-requires divide-requires same-length returns)
+    tie.close (tie.spec gather-weighted-requires divide-requires same-length same-length-2 returns)

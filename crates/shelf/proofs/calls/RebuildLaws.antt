@@ -1,0 +1,307 @@
+-- Rebuild: its rows 12 and 14, its blocks, filled one after another and stripe after stripe, and what it leaves, which is what is promised.
+-- Assumes nothing.
+use mathlib.Core.Bool.{Bool, true, false, not, _&&_, _||_}
+use mathlib.Core.List.{List}
+use mathlib.Core.Option.{none}
+use mathlib.Core.Path.{_≡_, refl, sym, ap, ap₂, _∙_, subst}
+use Prim.Native.Nat.{ℕ, _+_, _-_, _≤_, _<_}
+use native.Mathlib.Decide.{ℕ-discrete, decLt}
+use native.Mathlib.Omega.{arith}
+use lib.Dec.{ltb}
+use lib.ListN.{length, getD, replicate, set, length-set}
+use lib.Seq.{getD-set-same, getD-set-other}
+use borrow.Author.Tests.{lt-ltb, le-ltb, eq-eqb, ltb-true, ltb-false}
+use Rattle.shelf.specs.Counting.{choose, count, any}
+use Rattle.shelf.specs.Members.{memberAt}
+use Rattle.shelf.specs.State.{State, listed, stale, marksIn}
+use Rattle.shelf.specs.Status.{rebuild, arrayFailed, arraySound, withheld, dataWithheld, row, codeOf}
+use Rattle.shelf.specs.Calls.{blockAt, remade, parityFailed, arrayCleared, rebuilt, work}
+use Rattle.shelf.specs.Words.{words}
+use Rattle.shelf.specs.HashList.{staleIn, valid}
+use Rattle.shelf.specs.Lent.{Lent, lent, flagAt, flagsOf, stateOf, oriBy, curBy, listedBy, triesList, numberOf, changesList, altersList, Leaves, Answered}
+use Rattle.shelf.specs.Records.{withMode, withListed, withCleared}
+use Rattle.shelf.specs.Reading.{ListReady}
+use Rattle.shelf.specs.Rebuilding.{Rebuildable, dataFailedAt, withheldAt, rebuiltTo, rebuiltRecord, emptiedList, rebuiltList}
+use Rattle.shelf.specs.declared.record.Geometry.{Geometry}
+use Rattle.shelf.specs.declared.record.Shelf.{Shelf}
+use Rattle.shelf.proofs.general.TestLaws.{cases, clash, choose-true, choose-false, and-false, and-left, and-right, same-bool}
+use Rattle.shelf.proofs.general.WalkLaws.{any-turn}
+use Rattle.shelf.proofs.general.CountLaws.{any-some, any-found, any-none, none-any, count-more}
+use Rattle.shelf.proofs.numbers.TableRows.{row-hit, row-pass}
+use Rattle.shelf.proofs.numbers.InputLaws.{Passed, fine-record, inputs-pass}
+use Rattle.shelf.proofs.hashlist.ListMarks.{marks-listed}
+use Rattle.shelf.proofs.agreement.ListedLaws.{marks-none, none-marks, unlisted}
+use Rattle.shelf.proofs.lent.LayoutLaws.{flags-are, log-is}
+use Rattle.shelf.proofs.lent.LeavesLaws.{marks-here}
+use Rattle.shelf.proofs.calls.MadeLaws.{HoldsList, leaves-by, remade-says, remade-record, remade-log}
+use Rattle.shelf.proofs.calls.ResyncLaws.{drop-alters}
+use Rattle.shelf.proofs.calls.ServedLaws.{held-stale, list-ready}
+use Rattle.shelf.proofs.calls.RefillLaws.{rebuilt-reads}
+
+-- ---- a walk downwards over a test
+
+module _ (f : ℕ → Bool) (j : ℕ) (t : Bool) (e : t ≡ f (j - 1)) (pos : 0 < j) where
+  pub walk-hit : t ≡ true → true ≡ any j f
+  walk-hit q = sym (any-some j f (j - 1) (omega (arith, pos)) (sym e ∙ q))
+
+  pub walk-miss : t ≡ false → any (j - 1) f ≡ any j f
+  walk-miss q = any-turn j (j - 1) f (omega (arith, pos)) (sym e ∙ q)
+
+-- one of two tests, tried in turn
+pub either-first : (u v t : Bool) → t ≡ u → t ≡ true → true ≡ (u || v)
+either-first u v t e q = ap (λ (z : Bool). z || v) (sym q ∙ e)
+
+pub either-second : (u v t w : Bool) → t ≡ u → t ≡ false → w ≡ v → w ≡ (u || v)
+either-second u v t w e q f = f ∙ ap (λ (z : Bool). z || v) (sym q ∙ e)
+
+-- ---- row 14, as the code tries it
+
+module _ (r : Shelf) (l : List ℕ) (R : ListReady r l) (x : ℕ) where
+  -- no data disk has failed
+  pub sound-at : dataFailedAt r x ≡ false → false ≡ withheldAt r l x
+  sound-at e =
+      sym (none-any (r .geometry .d) (λ i. withheld (r .geometry) (flagAt r) (listedBy (r .geometry) l) x i)
+      (λ i h. ap (λ (u : Bool). flagAt r (r .geometry .d + 2) && (u && stale (r .geometry) (listedBy (r .geometry) l) x))
+      (off i h) ∙ and-false (flagAt r (r .geometry .d + 2))))
+    where
+      off : (i : ℕ) → i < r .geometry .d → flagAt r (memberAt (r .geometry) x i) ≡ false
+      off i h = cases (flagAt r (memberAt (r .geometry) x i)) (λ t. clash (any-some (r .geometry .d) (λ k. flagAt r (memberAt (r .geometry) x k)) i h t) e) (λ t. t)
+
+  -- one has: the stripe is withheld where it is stale
+  pub stale-at : flagAt r (r .geometry .d + 2) ≡ true → dataFailedAt r x ≡ true → (u : Bool) → u ≡ staleIn (words l) (r .geometry) x → u ≡ withheldAt r l x
+  stale-at t e u q =
+      let f = any-found (r .geometry .d) (λ k. flagAt r (memberAt (r .geometry) x k)) e in
+      same-bool u (withheldAt r l x)
+      (λ z. any-some (r .geometry .d) (λ i. withheld (r .geometry) (flagAt r) (listedBy (r .geometry) l) x i) (f .0) (f .1)
+      (sym (held-stale r l R x (f .0) (memberAt (r .geometry) x (f .0)) refl t (f .2) u q) ∙ z))
+      (λ z.
+      let k = any-found (r .geometry .d) (λ i. withheld (r .geometry) (flagAt r) (listedBy (r .geometry) l) x i) z in
+      let both : (flagAt r (memberAt (r .geometry) x (k .0)) && stale (r .geometry) (listedBy (r .geometry) l) x) ≡ true =
+      and-right (flagAt r (r .geometry .d + 2)) (flagAt r (memberAt (r .geometry) x (k .0)) && stale (r .geometry) (listedBy (r .geometry) l) x) (k .2) in
+      held-stale r l R x (k .0) (memberAt (r .geometry) x (k .0)) refl t
+      (and-left (flagAt r (memberAt (r .geometry) x (k .0))) (stale (r .geometry) (listedBy (r .geometry) l) x) both) u q ∙ k .2)
+
+module _ (r : Shelf) (l : List ℕ) (R : ListReady r l) where
+  -- the log is sound
+  pub none-by-log : flagAt r (r .geometry .d + 2) ≡ false → dataWithheld (r .geometry) (flagAt r) (listedBy (r .geometry) l) ≡ false
+  none-by-log t =
+      none-any (r .geometry .s) (λ x. withheldAt r l x) (λ x _.
+      none-any (r .geometry .d) (λ i. withheld (r .geometry) (flagAt r) (listedBy (r .geometry) l) x i) (λ i _.
+      ap (λ (u : Bool). u && (flagAt r (memberAt (r .geometry) x i) && stale (r .geometry) (listedBy (r .geometry) l) x)) t))
+
+  -- nothing is listed
+  pub none-by-list : r .listed ≡ 0 → dataWithheld (r .geometry) (flagAt r) (listedBy (r .geometry) l) ≡ false
+  none-by-list z =
+      none-any (r .geometry .s) (λ x. withheldAt r l x) (λ x hx.
+      none-any (r .geometry .d) (λ i. withheld (r .geometry) (flagAt r) (listedBy (r .geometry) l) x i) (λ i _.
+      ap (λ (u : Bool). flagAt r (r .geometry .d + 2) && (flagAt r (memberAt (r .geometry) x i) && u)) (fresh x hx)
+      ∙ ap (λ (u : Bool). flagAt r (r .geometry .d + 2) && u) (and-false (flagAt r (memberAt (r .geometry) x i))) ∙ and-false (flagAt r (r .geometry .d + 2))))
+    where
+      fresh : (x : ℕ) → x < r .geometry .s → stale (r .geometry) (listedBy (r .geometry) l) x ≡ false
+      fresh x hx =
+          none-any (r .geometry .d) (listedBy (r .geometry) l x)
+          (λ i hi. marks-none (r .geometry) (listedBy (r .geometry) l) (marks-listed (r .geometry) l (r .next) (r .listed) (R .range) (R .valid) ∙ z) x i hx hi)
+
+-- the rows, from whether an array member has failed
+module _ (r : Shelf) (l : List ℕ) (t : Bool) (e : t ≡ arrayFailed (r .geometry) (flagAt r)) where
+  pub rows-sound : not t ≡ true → 12 ≡ codeOf (r .geometry) (flagAt r) (r .mode) (listedBy (r .geometry) l) rebuild
+  unfolding codeOf
+  rows-sound q = row-hit 12 (arraySound (r .geometry) (flagAt r)) _ (ap not (sym e) ∙ q)
+
+  pub rows-failed : not t ≡ false → (code : ℕ) → code ≡ row 14 (dataWithheld (r .geometry) (flagAt r) (listedBy (r .geometry) l)) 0
+      → code ≡ codeOf (r .geometry) (flagAt r) (r .mode) (listedBy (r .geometry) l) rebuild
+  unfolding codeOf
+  rows-failed q code c =
+      row-pass 12 (arraySound (r .geometry) (flagAt r)) (row 14 (dataWithheld (r .geometry) (flagAt r) (listedBy (r .geometry) l)) 0) code
+      (ap not (sym e) ∙ q) c
+
+-- ---- the flags cleared
+
+-- the flags below i are cleared, the others are as they were
+pub record ClearedTo (fs₀ : List Bool) (i : ℕ) (fs : List Bool) : Type 0 where
+  pub long : length fs ≡ 19
+  pub below : (k : ℕ) → k < i → getD fs k false ≡ false
+  pub above : (k : ℕ) → i ≤ k → getD fs k false ≡ getD fs₀ k false
+
+pub cleared-none : (fs : List Bool) → length fs ≡ 19 → ClearedTo fs 0 fs
+cleared-none fs e = record { long = e; below = λ k h. absurd (omega arith); above = λ k _. refl }
+
+pub cleared-turn : (fs₀ fs : List Bool) (i : ℕ) → i < 19 → ClearedTo fs₀ i fs → ClearedTo fs₀ (i + 1) (set fs i false)
+cleared-turn fs₀ fs i h C =
+    record {
+      long = length-set fs i false ∙ C .long;
+      below = λ k l. elim (ℕ-discrete k i) [
+        | yes q ↦ ap (λ (m : ℕ). getD (set fs i false) m false) q ∙ getD-set-same fs i false false (omega (arith, C .long))
+        | no q ↦ getD-set-other fs i k false false q ∙ C .below k (omega arith)
+      ];
+      above = λ k l. getD-set-other fs i k false false (λ q. omega arith) ∙ C .above k (omega arith);
+    }
+
+pub cleared-all : (r : Shelf) (i : ℕ) (fs : List Bool) → i ≡ r .geometry .d + 2 → ClearedTo (r .failed) i fs
+    → record { geometry = r .geometry; mode = r .mode; next = r .next; listed = r .listed; failed = fs } ≡ withCleared r
+cleared-all r i fs e C =
+    let same : fs ≡ flagsOf (arrayCleared (r .geometry) (flagAt r)) =
+    flags-are (arrayCleared (r .geometry) (flagAt r)) fs (C .long) (λ k _.
+    cases (ltb k (r .geometry .d + 2))
+    (λ t. let low = ltb-true k (r .geometry .d + 2) t in C .below k (omega (arith, e, low)) ∙ sym (choose-true (ltb k (r .geometry .d + 2)) false (flagAt r k) t))
+    (λ t. let high = ltb-false k (r .geometry .d + 2) t in C .above k (omega (arith, e, high)) ∙ sym (choose-false (ltb k (r .geometry .d + 2)) false (flagAt r k) t))) in
+    λ j. record { geometry = r .geometry; mode = r .mode; next = r .next; listed = r .listed; failed = same j }
+
+-- ---- the record and the list after it
+
+pub emptied-some : (n : ℕ) (l l' : List ℕ) → 0 < n → l' ≡ replicate (length l) 255 → l' ≡ emptiedList n l
+emptied-some n l l' h e = e ∙ sym (choose-true (ltb 0 n) (replicate (length l) 255) l (lt-ltb 0 n h))
+
+pub emptied-none : (n : ℕ) (l : List ℕ) → n ≤ 0 → l ≡ emptiedList n l
+emptied-none n l h = sym (choose-false (ltb 0 n) (replicate (length l) 255) l (le-ltb 0 n h))
+
+pub settled-sound : (r : Shelf) (parity : Bool) (l : List ℕ) (c : Shelf) → parity ≡ false → c ≡ withCleared r → (c ≡ rebuiltRecord r parity) × (l ≡ rebuiltList r parity l)
+settled-sound r parity l c t e = (
+  e ∙ sym (choose-false parity (withListed (withMode (withCleared r) 0) 0) (withCleared r) t),
+  sym (choose-false parity (emptiedList (r .listed) l) l t),
+)
+
+pub settled-parity : (r : Shelf) (parity : Bool) (l l' : List ℕ) (c m o : Shelf) → parity ≡ true → c ≡ withCleared r → m ≡ withMode c 0 → o ≡ withListed m 0
+    → l' ≡ emptiedList (r .listed) l → (o ≡ rebuiltRecord r parity) × (l' ≡ rebuiltList r parity l)
+settled-parity r parity l l' c m o t ec em eo el = (
+  eo ∙ ap (λ (v : Shelf). withListed v 0) (em ∙ ap (λ (v : Shelf). withMode v 0) ec) ∙ sym (choose-true parity (withListed (withMode (withCleared r) 0) 0) (withCleared r) t),
+  el ∙ sym (choose-true parity (emptiedList (r .listed) l) l t),
+)
+
+-- ---- the call
+
+-- marks in all: a stripe is stale
+some-stale : (g : Geometry) (m : ℕ → ℕ → Bool) → 0 < marksIn g m → (x : ℕ) × (x < g .s) × (stale g m x ≡ true)
+some-stale g m h =
+    cases (any (g .s) (stale g m))
+    (λ t. any-found (g .s) (stale g m) t)
+    (λ t. let z : marksIn g m ≡ 0 = none-marks g m (λ x i hx hi. any-none (g .d) (m x) (any-none (g .s) (stale g m) t x hx) i hi) in absurd (omega (arith, z)))
+
+module _ (r : Shelf) (a n l : List ℕ) where
+  abbrev g : Geometry
+  g = r .geometry
+
+  abbrev st : State
+  st = stateOf (lent r a n l)
+
+  -- the state where parity had not failed
+  abbrev refilled : State
+  refilled = record { disk = blockAt g st; p = st .p; q = st .q; log = st .log; mode = st .mode; failed = arrayCleared g (st .failed) }
+
+  -- and where it had
+  abbrev remadeAll : State
+  remadeAll = remade g st (blockAt g st) (arrayCleared g (st .failed))
+
+  passed : 0 ≡ numberOf r (length a) (length n) l rebuild → Passed r (length a) (length n) l
+  unfolding numberOf triesList
+  passed e = inputs-pass r (length a) (length n) l _ (sym e) .0
+
+  two-failed : Passed r (length a) (length n) l → count (r .geometry .d + 2) (flagAt r) ≤ 2
+  two-failed P =
+      let few = ltb-false 2 (count 19 (flagAt r)) (fine-record r (P .fine) .few) in
+      let q : r .geometry .d + 2 + (17 - r .geometry .d) ≡ 19 = omega (arith, P .range .d-most) in
+      let more : count (r .geometry .d + 2) (flagAt r) ≤ count 19 (flagAt r) =
+      subst (λ (m : ℕ). count (r .geometry .d + 2) (flagAt r) ≤ count m (flagAt r)) q (count-more (r .geometry .d + 2) (17 - r .geometry .d) (flagAt r)) in
+      omega (arith, few, more)
+
+  -- what the functions below ask
+  pub rebuild-asks : 0 ≡ numberOf r (length a) (length n) l rebuild → Rebuildable (lent r a n l)
+  rebuild-asks e =
+      let P = passed e in
+      record { ready = record { listing = list-ready r (length a) (length n) l P; array = P .array; log = P .log }; two = two-failed P }
+
+  -- parity had not failed: the list stays
+  sound-leaves : (e : 0 ≡ numberOf r (length a) (length n) l rebuild) → Leaves g refilled (lent (withCleared r) (rebuiltTo (lent r a n l) false (g .s)) n l)
+  unfolding stateOf
+  sound-leaves e =
+      let P = passed e in
+      leaves-by g refilled (withCleared r) (rebuiltTo (lent r a n l) false (g .s)) n l (P .range)
+      (λ i. record { geometry = g; mode = r .mode; next = r .next; listed = sym (marks-here r a n l P) i; failed = flagsOf (arrayCleared g (flagAt r)) })
+      (rebuilt-reads r a n l (two-failed P) (rebuild-asks e .ready) false refilled (λ x i. refl) (λ _ x. refl) (λ _ x. refl) (λ z. clash z refl) (λ z. clash z refl))
+      (log-is g refilled n (P .log) (λ k _. refl))
+      (record { length-of = P .list; passes = P .valid; ori = λ x i hx hi. refl; cur = λ x i hx hi. refl })
+
+  -- parity had failed: the list says nothing any more
+  parity-leaves : (e : 0 ≡ numberOf r (length a) (length n) l rebuild) (l' : List ℕ) → HoldsList g remadeAll 0 l'
+      → Leaves g remadeAll (lent (withListed (withMode (withCleared r) 0) 0) (rebuiltTo (lent r a n l) true (g .s)) n l')
+  unfolding stateOf choose
+  parity-leaves e l' Z =
+      let P = passed e in
+      leaves-by g remadeAll (withListed (withMode (withCleared r) 0) 0) (rebuiltTo (lent r a n l) true (g .s)) n l' (P .range)
+      (remade-record g st (blockAt g st) (arrayCleared g (st .failed)))
+      (unfold remade in rebuilt-reads r a n l (two-failed P) (rebuild-asks e .ready) true remadeAll (λ x i. refl) (λ z. clash refl z) (λ z. clash refl z) (λ _ x. refl) (λ _ x. refl))
+      (remade-log g st (blockAt g st) (arrayCleared g (st .failed)) n (log-is g st n (P .log) (λ k _. refl))) Z
+
+  -- the list emptied, or left as it is where nothing is listed
+  emptied-says : (e : 0 ≡ numberOf r (length a) (length n) l rebuild) → HoldsList g remadeAll 0 (emptiedList (r .listed) l)
+  emptied-says e =
+      let P = passed e in
+      elim (decLt 0 (r .listed)) [
+        | yes h ↦ subst (λ (z : List ℕ). HoldsList g remadeAll 0 z) (ap (λ (k : ℕ). replicate k 255) (sym (P .list)) ∙ emptied-some (r .listed) l (replicate (length l) 255) h refl)
+            (remade-says g st (blockAt g st) (arrayCleared g (st .failed)) (P .range))
+        | no h ↦ subst (λ (z : List ℕ). HoldsList g remadeAll 0 z) (emptied-none (r .listed) l (omega arith)) (unlisted-says P (omega arith))
+      ]
+    where
+      nothing : Passed r (length a) (length n) l → r .listed ≡ 0 → (x i : ℕ) → x < g .s → i < g .d → (oriBy g l x i ≡ none) × (curBy g l x i ≡ none)
+      nothing P z x i hx hi = unfold stateOf in unlisted (st .log) x i (marks-none g (listed (st .log)) (marks-here r a n l P ∙ z) x i hx hi)
+
+      next-zero : Passed r (length a) (length n) l → r .listed ≡ 0 → r .next ≡ 0
+      next-zero P z =
+          let f = fine-record r (P .fine) .idle in
+          let low = ltb-false 0 (r .next) (sym (ap (λ (b : Bool). b && ltb 0 (r .next)) (eq-eqb (r .listed) 0 z)) ∙ f) in omega (arith, low)
+
+      unlisted-says : Passed r (length a) (length n) l → r .listed ≡ 0 → HoldsList g remadeAll 0 l
+      unlisted-says P z =
+          unfold remade in record {
+            length-of = P .list;
+            passes = ap₂ (λ (m k : ℕ). valid (words l) g m k) (sym (next-zero P z)) (sym z) ∙ P .valid;
+            ori = λ x i hx hi. nothing P z x i hx hi .0;
+            cur = λ x i hx hi. nothing P z x i hx hi .1;
+          }
+
+  -- a list with entries is altered where parity had failed
+  parity-alters : Passed r (length a) (length n) l → rebuilt g st ≡ remadeAll → 0 < r .listed → altersList g rebuild st ≡ true
+  unfolding altersList triesList work
+  parity-alters P is h =
+      let m : marksIn g (listed (st .log)) ≡ r .listed = marks-here r a n l P in
+      let found = some-stale g (listed (st .log)) (omega (arith, m)) in
+      ap (λ (s : State). changesList g (st .log) (s .log)) is
+      ∙ (unfold remade in drop-alters g (st .log) (remadeAll .log) (found .0) (found .1) (found .2) (λ i. refl) (λ i. refl))
+
+  rebuilt-sound : parityFailed g (st .failed) ≡ false → refilled ≡ rebuilt g st
+  unfolding rebuilt
+  rebuilt-sound t = sym (choose-false (parityFailed g (st .failed)) remadeAll refilled t)
+
+  rebuilt-parity : parityFailed g (st .failed) ≡ true → remadeAll ≡ rebuilt g st
+  unfolding rebuilt
+  rebuilt-parity t = sym (choose-true (parityFailed g (st .failed)) remadeAll refilled t)
+
+  by-parity : 0 ≡ numberOf r (length a) (length n) l rebuild → (parity : Bool) → parityFailed g (st .failed) ≡ parity
+      → Answered (lent r a n l) rebuild 0 (lent (rebuiltRecord r parity) (rebuiltTo (lent r a n l) parity (g .s)) n (rebuiltList r parity l))
+  unfolding work choose
+  by-parity e false t =
+      record {
+        number = e;
+        done = λ _. subst (λ (s : State). Leaves g s (lent (withCleared r) (rebuiltTo (lent r a n l) false (g .s)) n l)) (rebuilt-sound t) (sound-leaves e);
+        unaltered = λ _ _. refl;
+        refused = λ z. absurd (z refl);
+      }
+  by-parity e true t =
+      record {
+        number = e;
+        done = λ _.
+            subst (λ (s : State). Leaves g s (lent (withListed (withMode (withCleared r) 0) 0) (rebuiltTo (lent r a n l) true (g .s)) n (emptiedList (r .listed) l))) (rebuilt-parity t)
+            (parity-leaves e (emptiedList (r .listed) l) (emptied-says e));
+        unaltered = λ _ q. elim (decLt 0 (r .listed)) [
+          | yes h ↦ clash (parity-alters (passed e) (sym (rebuilt-parity t)) h) q
+          | no h ↦ sym (emptied-none (r .listed) l (omega arith))
+        ];
+        refused = λ z. absurd (z refl);
+      }
+
+  pub rebuild-answered : 0 ≡ numberOf r (length a) (length n) l rebuild → (parity : Bool) → parity ≡ parityFailed (r .geometry) (flagAt r)
+      → (r' : Shelf) (a' l' : List ℕ) → a' ≡ rebuiltTo (lent r a n l) parity (r .geometry .s) → r' ≡ rebuiltRecord r parity → l' ≡ rebuiltList r parity l
+      → Answered (lent r a n l) rebuild 0 (lent r' a' n l')
+  rebuild-answered e parity t r' a' l' ea er el =
+      subst (λ (h : Lent). Answered (lent r a n l) rebuild 0 h) (sym (λ i. record { shelf = er i; array = ea i; log = n; list = el i }))
+      (by-parity e parity (unfold stateOf in sym t))

@@ -1,0 +1,523 @@
+-- The array as a rebuild fills it, block by block and stripe by stripe. What stands in failed members' blocks does not tell in the block that a read
+-- gives, so each is filled with what a read gives of the array as it was; and parity is that of the blocks filled.
+-- Assumes nothing.
+use mathlib.Core.Bool.{Bool, true, false, not, _&&_}
+use mathlib.Core.List.{List, _++_}
+use mathlib.Core.Logic.{_≢_, _⊎_, inl, inr, ⊎-elim}
+use mathlib.Core.Option.{Option, none, some}
+use mathlib.Core.Path.{_≡_, refl, sym, ap, ap₂, _∙_, subst}
+use Prim.Native.Nat.{ℕ, zero, suc, _+_, _*_, _-_, _≤_, _<_}
+use native.Mathlib.Decide.{ℕ-discrete, decLt}
+use native.Mathlib.Omega.{arith}
+use lib.Dec.{eqb, ltb}
+use lib.ListN.{length, getD}
+use borrow.Author.Tests.{lt-ltb, le-ltb, eq-eqb, ne-eqb, ltb-true, eqb-true}
+use Rattle.stripe.specs.Blocks.{block, gen, put}
+use Rattle.stripe.specs.Parity.{solved}
+use Rattle.stripe.specs.Places.{place, parityMade}
+use Rattle.stripe.proofs.Laws.{fits, place-lt, place-inj, place-other, put-block, block-whole, block-put-same, block-put-other, length-put, getD-block, solved-ignores, second-filled, getD-gen, gen-ext}
+use Rattle.shelf.specs.Counting.{choose, count, any, first}
+use Rattle.shelf.specs.Members.{roleP, memberAt, addressOf, column, blockP, blockQ, otherMissing, workedBack}
+use Rattle.shelf.specs.State.{State, listed}
+use Rattle.shelf.specs.Calls.{orElse, original, missing, blockAt}
+use Rattle.shelf.specs.Words.{words}
+use Rattle.shelf.specs.HashList.{noneWord, said, lookup}
+use Rattle.shelf.specs.Lent.{Lent, lent, flagAt, oriBy, curBy, listedBy, stateOf, arrayBlock, arrayLength, roleBlock}
+use Rattle.shelf.specs.Reading.{ListReady, Ready, latest, missingBy, solvedBlock, lostBlock, servedBlock}
+use Rattle.shelf.specs.Rebuilding.{Rebuildable, Lost, FilledBelow, stillMissing, withArray, filledAt, filledTo, stripeRebuilt, rebuiltTo}
+use Rattle.shelf.specs.declared.record.Geometry.{Geometry}
+use Rattle.shelf.specs.declared.record.Shelf.{Shelf}
+use Rattle.shelf.proofs.general.TestLaws.{cases, clash, choose-true, choose-false, and-left}
+use Rattle.shelf.proofs.general.CountLaws.{first-found, first-none}
+use Rattle.shelf.proofs.lent.LayoutLaws.{role-data, role-p, role-q, by-role}
+use Rattle.shelf.proofs.agreement.ListedLaws.{opt-cases, never-some, unlisted, none-listed}
+use Rattle.shelf.proofs.agreement.RowParity.{blockP-ext, blockQ-ext, rest-there}
+use Rattle.shelf.proofs.agreement.ReadLaws.{missing-some, missing-none, missing-parity, missing-failed, few-missing}
+use Rattle.shelf.proofs.hashlist.ListMarks.{listed-found}
+use Rattle.shelf.proofs.hashlist.ListMeaning.{said-whole}
+use Rattle.shelf.proofs.calls.MadeLaws.{HoldsArray, Rowed, elsewhere, in-row, in-p, in-q, made-reads}
+use Rattle.shelf.proofs.calls.ServedLaws.{record-some, record-none}
+use Rattle.shelf.proofs.calls.GivenLaws.{given-sound, given-lost, given-length, place-fits, worked}
+
+-- ---- as the code fills it
+
+ready-with : (r : Shelf) (a a' n l : List ℕ) → Ready (lent r a n l) → length a' ≡ length a → Ready (lent r a' n l)
+ready-with r a a' n l R e = record { listing = R .listing; array = e ∙ R .array; log = R .log }
+
+pub rebuildable-with : (r : Shelf) (a a' n l : List ℕ) → Rebuildable (lent r a n l) → length a' ≡ length a → Rebuildable (lent r a' n l)
+rebuildable-with r a a' n l R e = record { ready = ready-with r a a' n l (R .ready) e; two = R .two }
+
+pub still-filled : (i y : ℕ) → y < i → i ≡ stillMissing i y
+still-filled i y h = sym (choose-true (ltb y i) i y (lt-ltb y i h))
+
+pub still-there : (i y : ℕ) → i ≤ y → y ≡ stillMissing i y
+still-there i y h = sym (choose-false (ltb y i) i y (le-ltb y i h))
+
+-- a block that is put where it stands
+pub filled-by : (r : Shelf) (a n l : List ℕ) (x i k : ℕ) (v o : List ℕ) → k ≡ place (r .geometry .d) (r .geometry .s) x i → o ≡ put (r .geometry .b) k v a
+    → v ≡ servedBlock (lent r a n l) x i → o ≡ filledAt (lent r a n l) x i
+unfolding filledAt
+filled-by r a n l x i k v o ek eo ev = eo ∙ ap₂ (λ (m : ℕ) (w : List ℕ). put (r .geometry .b) m w a) ek ev
+
+-- the block of a sound disk stays
+pub filled-sound : (r : Shelf) (a n l : List ℕ) → Ready (lent r a n l) → (x i : ℕ) → x < r .geometry .s → i < r .geometry .d
+    → flagAt r (memberAt (r .geometry) x i) ≡ false → a ≡ filledAt (lent r a n l) x i
+filled-sound r a n l R x i hx hi t =
+    filled-by r a n l x i (place (r .geometry .d) (r .geometry .s) x i) (block (r .geometry .b) (place (r .geometry .d) (r .geometry .s) x i) a) a refl
+    (sym (put-block (r .geometry .b) (place (r .geometry .d) (r .geometry .s) x i) a
+    (fits (place (r .geometry .d) (r .geometry .s) x i) ((r .geometry .d + 2) * r .geometry .s) (r .geometry .b) a (R .array)
+    (place-lt (r .geometry .d) (r .geometry .s) x i hx (omega arith)))))
+    (given-sound r a n l R x hx i t)
+
+-- its place lies within the array
+pub place-room : (r : Shelf) (a n l : List ℕ) → Ready (lent r a n l) → (x i k : ℕ) → x < r .geometry .s → i < r .geometry .d
+    → k ≡ place (r .geometry .d) (r .geometry .s) x i → k * r .geometry .b + r .geometry .b ≤ length a
+place-room r a n l R x i k hx hi e =
+    subst (λ (m : ℕ). m * r .geometry .b + r .geometry .b ≤ length a) (sym e) (place-fits r a n l R x hx i hi)
+
+-- a block that is worked back and copied
+pub filled-lost : (r : Shelf) (a n l : List ℕ) → Ready (lent r a n l) → (x i k v : ℕ) (u o : List ℕ) → x < r .geometry .s → flagAt r (memberAt (r .geometry) x i) ≡ true
+    → v ≡ latest (words l) (r .geometry) (addressOf (r .geometry) x i) → v ≡ noneWord → length u ≡ r .geometry .b → u ≡ lostBlock (lent r a n l) x i
+    → k ≡ place (r .geometry .d) (r .geometry .s) x i → o ≡ put (r .geometry .b) k (block (r .geometry .b) 0 u) a → o ≡ filledAt (lent r a n l) x i
+filled-lost r a n l R x i k v u o hx t ev z long e ek eo =
+    filled-by r a n l x i k (block (r .geometry .b) 0 u) o ek eo (block-whole (r .geometry .b) u long ∙ e ∙ given-lost r a n l R x hx i t v ev z)
+
+pub filled-start : (h : Lent) (x : ℕ) → h .array ≡ filledTo h x 0
+unfolding filledTo
+filled-start h x = refl
+
+pub filled-more : (h : Lent) (x i : ℕ) (a o : List ℕ) → a ≡ filledTo h x i → o ≡ filledAt (withArray h a) x i → o ≡ filledTo h x (i + 1)
+unfolding filledTo
+filled-more h x i a o ea eo =
+    let q : suc i ≡ i + 1 = omega arith in
+    eo ∙ ap (λ (z : List ℕ). filledAt (withArray h z) x i) ea ∙ ap (filledTo h x) q
+
+pub stripe-sound : (h : Lent) (parity : Bool) (x : ℕ) (a : List ℕ) → parity ≡ false → a ≡ filledTo h x (h .shelf .geometry .d) → a ≡ stripeRebuilt h parity x
+unfolding stripeRebuilt
+stripe-sound h parity x a t e = e ∙ sym (choose-false parity _ (filledTo h x (h .shelf .geometry .d)) t)
+
+pub stripe-parity : (h : Lent) (parity : Bool) (x : ℕ) (a o : List ℕ) → parity ≡ true → a ≡ filledTo h x (h .shelf .geometry .d)
+    → o ≡ parityMade (place (h .shelf .geometry .d) (h .shelf .geometry .s) x) (h .shelf .geometry .d) (h .shelf .geometry .b) a → o ≡ stripeRebuilt h parity x
+unfolding stripeRebuilt
+stripe-parity h parity x a o t e eo =
+    eo ∙ ap (λ (z : List ℕ). parityMade (place (h .shelf .geometry .d) (h .shelf .geometry .s) x) (h .shelf .geometry .d) (h .shelf .geometry .b) z) e
+    ∙ sym (choose-true parity _ (filledTo h x (h .shelf .geometry .d)) t)
+
+pub rebuilt-start : (h : Lent) (parity : Bool) → h .array ≡ rebuiltTo h parity 0
+unfolding rebuiltTo
+rebuilt-start h parity = refl
+
+pub rebuilt-more : (h : Lent) (parity : Bool) (x : ℕ) (a o : List ℕ) → a ≡ rebuiltTo h parity x → o ≡ stripeRebuilt (withArray h a) parity x → o ≡ rebuiltTo h parity (x + 1)
+unfolding rebuiltTo
+rebuilt-more h parity x a o ea eo =
+    let q : suc x ≡ x + 1 = omega arith in
+    eo ∙ ap (λ (z : List ℕ). stripeRebuilt (withArray h z) parity x) ea ∙ ap (rebuiltTo h parity) q
+
+-- ---- the block that a read gives does not hang on failed members' blocks
+
+-- a state with other blocks
+abbrev pub withBlocks : State → (ℕ → ℕ → List ℕ) → (ℕ → List ℕ) → (ℕ → List ℕ) → State
+withBlocks s disk p q = record { disk = disk; p = p; q = q; log = s .log; mode = s .mode; failed = s .failed }
+
+-- a record of the log is the same whatever stands behind it
+one-of : (f : ℕ → List ℕ) (w v : List ℕ) (c o : Option ℕ) → (c ≡ none → o ≡ none → w ≡ v) → orElse c f (orElse o f w) ≡ orElse c f (orElse o f v)
+one-of f w v none none h = h refl refl
+one-of f w v none (some r) h = refl
+one-of f w v (some r) o h = refl
+
+-- the other missing role, where there is one
+other-is-missing : (g : Geometry) (m : ℕ → Bool) (i : ℕ) → otherMissing g m i ≢ i → m (otherMissing g m i) ≡ true
+unfolding otherMissing
+other-is-missing g m i ne =
+    let f : ℕ → Bool = λ k. m k && not (eqb k i) in
+    let y : ℕ = first (g .d + 2) f in
+    cases (any (g .d + 2) f)
+    (λ t.
+    let k = first-found (g .d + 2) f t in
+    ap m (choose-true (ltb (first (g .d + 2) f) (g .d + 2)) (first (g .d + 2) f) i (lt-ltb (first (g .d + 2) f) (g .d + 2) (k .0)))
+    ∙ and-left (m (first (g .d + 2) f)) (not (eqb (first (g .d + 2) f) i)) (k .1))
+    (λ t.
+    let k : first (g .d + 2) f ≡ g .d + 2 = first-none (g .d + 2) f t in
+    absurd (ne (choose-false (ltb (first (g .d + 2) f) (g .d + 2)) (first (g .d + 2) f) i (le-ltb (first (g .d + 2) f) (g .d + 2) (omega (arith, k))))))
+
+-- block i of stripe x is on a failed disk and not in the log
+module _ (g : Geometry) (s : State) (x : ℕ) (two : count (g .d + 2) (s .failed) ≤ 2)
+    (whole : (i j : ℕ) → i < g .d → j < g .d → s .log .ori x i ≡ none → listed (s .log) x i ≡ true → listed (s .log) x j ≡ true)
+    (i : ℕ) (hi : i < g .d) (lost : s .failed (memberAt g x i) ≡ true) (no-ori : s .log .ori x i ≡ none) (no-cur : s .log .cur x i ≡ none) where
+  have : (j : ℕ) → j < g .d → s .log .ori x j ≡ none → listed (s .log) x j ≡ false
+  have j hj o = cases (listed (s .log) x j) (λ u. clash (whole j i hj hi o u) (none-listed (s .log) x i no-ori no-cur)) (λ u. u)
+
+  gone : missing g s x i ≡ true
+  gone = missing-none g s x have i hi no-ori ∙ lost
+
+  rest : (k : ℕ) → k < g .d + 2 → k ≢ i → k ≢ otherMissing g (missing g s x) i → missing g s x k ≡ false
+  rest k hk ni ny = rest-there g (missing g s x) i (few-missing g s x have two) hi gone k hk ni ny
+
+  -- the other missing block, y, is data below i, and stands filled in its place: P alone gives block i
+  module _ (hd : g .d ≤ 16) (y : ℕ) (is : y ≡ otherMissing g (missing g s x) i) (low : y < i)
+      (filled : s .failed (memberAt g x y) ≡ true → s .disk x y ≡ blockAt g s x y)
+      (y-byte : (j : ℕ) → j < g .b → getD (s .disk x y) j 0 < 256) (p-byte : (j : ℕ) → j < g .b → getD (s .p x) j 0 < 256) where
+    y-gone : missing g s x y ≡ true
+    y-gone = ap (missing g s x) is ∙ other-is-missing g (missing g s x) i (λ e. omega (arith, is, e))
+
+    y-failed : s .failed (memberAt g x y) ≡ true
+    y-failed = missing-failed g s x have y y-gone
+
+    y-ori : s .log .ori x y ≡ none
+    y-ori = opt-cases (s .log .ori x y) (λ o. o) (λ r o. clash y-gone (missing-some g s x have y r (omega arith) o))
+
+    y-cur : s .log .cur x y ≡ none
+    y-cur = unlisted (s .log) x y (have y (omega arith) y-ori) .1
+
+    -- seen from y, the other one is i
+    back : otherMissing g (missing g s x) y ≡ i
+    back = elim (ℕ-discrete i (otherMissing g (missing g s x) y)) [
+      | yes e ↦ sym e
+      | no ne ↦ clash gone (rest-there g (missing g s x) y (few-missing g s x have two) (omega arith) y-gone i (omega arith) (λ e. omega arith) ne)
+    ]
+
+    y-block : original g s x y ≡ workedBack g (missing g s x) (original g s x) y
+    unfolding blockAt
+    y-block =
+        choose-true (ltb y (g .d)) (orElse (s .log .ori x y) (s .log .value) (s .disk x y)) (choose (eqb y (roleP g)) (s .p x) (s .q x)) (lt-ltb y (g .d) (omega arith))
+        ∙ ap (λ (z : Option ℕ). orElse z (s .log .value) (s .disk x y)) y-ori
+        ∙ filled y-failed
+        ∙ choose-true (s .failed (memberAt g x y)) _ (s .disk x y) y-failed
+        ∙ ap₂ (λ (c o : Option ℕ). orElse c (s .log .value) (orElse o (s .log .value) (workedBack g (missing g s x) (original g s x) y))) y-cur y-ori
+
+    y-original : original g s x y ≡ s .disk x y
+    y-original =
+        choose-true (ltb y (g .d)) (orElse (s .log .ori x y) (s .log .value) (s .disk x y)) (choose (eqb y (roleP g)) (s .p x) (s .q x)) (lt-ltb y (g .d) (omega arith))
+        ∙ ap (λ (z : Option ℕ). orElse z (s .log .value) (s .disk x y)) y-ori
+
+    p-original : original g s x (g .d) ≡ s .p x
+    p-original =
+        choose-false (ltb (g .d) (g .d)) (orElse (s .log .ori x (g .d)) (s .log .value) (s .disk x (g .d))) (choose (eqb (g .d) (roleP g)) (s .p x) (s .q x)) (le-ltb (g .d) (g .d) (omega arith))
+        ∙ choose-true (eqb (g .d) (roleP g)) (s .p x) (s .q x) (eq-eqb (g .d) (g .d) refl)
+
+    y-column : (j : ℕ) → j < g .b → column (original g s x) j y ≡ solved (g .d) y i (column (original g s x) j)
+    unfolding workedBack
+    y-column j hj =
+        ap (λ (v : List ℕ). getD v j 0) y-block
+        ∙ getD-gen (g .b) (λ k. solved (g .d) y (otherMissing g (missing g s x) y) (column (original g s x) k)) j hj
+        ∙ ap (λ (z : ℕ). solved (g .d) y z (column (original g s x) j)) back
+
+    pub by-p-alone : (j : ℕ) → j < g .b → solved (g .d) i i (column (original g s x) j) ≡ solved (g .d) i y (column (original g s x) j)
+    by-p-alone j hj =
+        second-filled (g .d) y i (column (original g s x) j) hd (omega arith) hi (λ e. omega arith)
+        (subst (λ (v : List ℕ). getD v j 0 < 256) (sym p-original) (p-byte j hj))
+        (subst (λ (v : List ℕ). getD v j 0 < 256) (sym y-original) (y-byte j hj)) (y-column j hj)
+
+-- s and t are the same but for blocks; in stripe x those of sound members are the same too
+module _ (g : Geometry) (s : State) (disk : ℕ → ℕ → List ℕ) (p q : ℕ → List ℕ) (x : ℕ) (two : count (g .d + 2) (s .failed) ≤ 2)
+    (whole : (i j : ℕ) → i < g .d → j < g .d → s .log .ori x i ≡ none → listed (s .log) x i ≡ true → listed (s .log) x j ≡ true)
+    (same-disk : (i : ℕ) → i < g .d → s .failed (memberAt g x i) ≡ false → disk x i ≡ s .disk x i)
+    (same-p : s .failed (memberAt g x (g .d)) ≡ false → p x ≡ s .p x) (same-q : s .failed (memberAt g x (g .d + 1)) ≡ false → q x ≡ s .q x) where
+  abbrev t : State
+  t = withBlocks s disk p q
+
+  module _ (i : ℕ) (hi : i < g .d) (lost : s .failed (memberAt g x i) ≡ true) (no-ori : s .log .ori x i ≡ none) (no-cur : s .log .cur x i ≡ none) where
+    there : (j : ℕ) → j < g .d → s .log .ori x j ≡ none → listed (s .log) x j ≡ false
+    there = have g s x two whole i hi lost no-ori no-cur
+
+    data-same : (k : ℕ) → k < g .d → missing g s x k ≡ false → original g t x k ≡ original g s x k
+    data-same k hk m =
+        choose-true (ltb k (g .d)) (orElse (s .log .ori x k) (s .log .value) (disk x k)) (choose (eqb k (roleP g)) (p x) (q x)) (lt-ltb k (g .d) hk)
+        ∙ opt-cases (s .log .ori x k)
+        (λ o. ap (λ (v : List ℕ). orElse (s .log .ori x k) (s .log .value) v) (same-disk k hk (sym (missing-none g s x there k hk o) ∙ m)))
+        (λ r o. ap (λ (z : Option ℕ). orElse z (s .log .value) (disk x k)) o ∙ sym (ap (λ (z : Option ℕ). orElse z (s .log .value) (s .disk x k)) o))
+        ∙ sym (choose-true (ltb k (g .d)) (orElse (s .log .ori x k) (s .log .value) (s .disk x k)) (choose (eqb k (roleP g)) (s .p x) (s .q x)) (lt-ltb k (g .d) hk))
+
+    parity-same : (k : ℕ) → g .d ≤ k → choose (eqb k (roleP g)) (p x) (q x) ≡ choose (eqb k (roleP g)) (s .p x) (s .q x) → original g t x k ≡ original g s x k
+    parity-same k hk e =
+        choose-false (ltb k (g .d)) (orElse (s .log .ori x k) (s .log .value) (disk x k)) (choose (eqb k (roleP g)) (p x) (q x)) (le-ltb k (g .d) hk) ∙ e
+        ∙ sym (choose-false (ltb k (g .d)) (orElse (s .log .ori x k) (s .log .value) (s .disk x k)) (choose (eqb k (roleP g)) (s .p x) (s .q x)) (le-ltb k (g .d) hk))
+
+    same : (k : ℕ) → k < g .d + 2 → missing g s x k ≡ false → original g t x k ≡ original g s x k
+    same =
+        by-role g (λ k. missing g s x k ≡ false → original g t x k ≡ original g s x k) data-same
+        (λ m. parity-same (g .d) (omega arith)
+        (ap (λ (v : List ℕ). choose (eqb (g .d) (g .d)) v (q x)) (same-p (sym (missing-parity g s x there (g .d) (omega arith)) ∙ m))
+        ∙ choose-true (eqb (g .d) (g .d)) (s .p x) (q x) (eq-eqb (g .d) (g .d) refl) ∙ sym (choose-true (eqb (g .d) (g .d)) (s .p x) (s .q x) (eq-eqb (g .d) (g .d) refl))))
+        (λ m. parity-same (g .d + 1) (omega arith)
+        (ap (λ (v : List ℕ). choose (eqb (g .d + 1) (g .d)) (p x) v) (same-q (sym (missing-parity g s x there (g .d + 1) (omega arith)) ∙ m))
+        ∙ choose-false (eqb (g .d + 1) (g .d)) (p x) (s .q x) (ne-eqb (g .d + 1) (g .d) (λ z. omega arith))
+        ∙ sym (choose-false (eqb (g .d + 1) (g .d)) (s .p x) (s .q x) (ne-eqb (g .d + 1) (g .d) (λ z. omega arith)))))
+
+    lost-alike : workedBack g (missing g t x) (original g t x) i ≡ workedBack g (missing g s x) (original g s x) i
+    unfolding workedBack
+    lost-alike =
+        let y : ℕ = otherMissing g (missing g s x) i in
+        gen-ext (g .b) (λ j. solved (g .d) i y (column (original g t x) j)) (λ j. solved (g .d) i y (column (original g s x) j))
+        (λ j _. solved-ignores (g .d) i y (column (original g t x) j) (column (original g s x) j) hi
+        (λ k hk ni ny. ap (λ (v : List ℕ). getD v j 0) (same k hk (rest g s x two whole i hi lost no-ori no-cur k hk ni ny))))
+
+  pub block-alike : (i : ℕ) → i < g .d → blockAt g (withBlocks s disk p q) x i ≡ blockAt g s x i
+  unfolding blockAt
+  block-alike i hi =
+      cases (s .failed (memberAt g x i))
+      (λ f.
+      choose-true (s .failed (memberAt g x i)) _ (disk x i) f
+      ∙ one-of (s .log .value) (workedBack g (missing g t x) (original g t x) i) (workedBack g (missing g s x) (original g s x) i) (s .log .cur x i) (s .log .ori x i)
+      (λ c o. lost-alike i hi f o c)
+      ∙ sym (choose-true (s .failed (memberAt g x i)) _ (s .disk x i) f))
+      (λ f. choose-false (s .failed (memberAt g x i)) _ (disk x i) f ∙ same-disk i hi f ∙ sym (choose-false (s .failed (memberAt g x i)) _ (s .disk x i) f))
+
+-- ---- the same of what is lent
+
+-- a stripe with a listed block that lacks Ori is listed whole
+whole-by : (r : Shelf) (l : List ℕ) → ListReady r l → (x i j : ℕ) → i < r .geometry .d → j < r .geometry .d → oriBy (r .geometry) l x i ≡ none
+    → listedBy (r .geometry) l x i ≡ true → listedBy (r .geometry) l x j ≡ true
+whole-by r l R x i j hi hj o e =
+    let g = r .geometry in
+    let Y = R .range in
+    let found : lookup (words l) g (addressOf g x i) < g .e =
+    ltb-true (lookup (words l) g (addressOf g x i)) (g .e) (sym (listed-found g l (r .next) (r .listed) Y (R .valid) x i) ∙ e) in
+    let lacks : said (words l) g (addressOf g x i) .ori ≡ noneWord =
+    elim (ℕ-discrete (said (words l) g (addressOf g x i) .ori) noneWord) [ yes z ↦ z | no z ↦ absurd (never-some (sym o ∙ record-some _ z)) ] in
+    listed-found g l (r .next) (r .listed) Y (R .valid) x j
+    ∙ lt-ltb (lookup (words l) g (addressOf g x j)) (g .e)
+    (said-whole (words l) g (r .next) (r .listed) (omega (arith, Y .h-least)) (omega (arith, Y .d-least)) (Y .e-most) (R .valid) x i hi found lacks j hj)
+
+module _ (r : Shelf) (n l : List ℕ) (two : count (r .geometry .d + 2) (flagAt r) ≤ 2) (L : ListReady r l) where
+  -- a and a' have the same blocks of sound members in stripe x
+  pub given-alike : (a a' : List ℕ) (x : ℕ)
+      → ((j : ℕ) → j < r .geometry .d + 2 → flagAt r (memberAt (r .geometry) x j) ≡ false → arrayBlock (r .geometry) a' x j ≡ arrayBlock (r .geometry) a x j)
+      → (i : ℕ) → i < r .geometry .d → servedBlock (lent r a' n l) x i ≡ servedBlock (lent r a n l) x i
+  unfolding stateOf
+  given-alike a a' x same i hi =
+      let g = r .geometry in
+      block-alike g (stateOf (lent r a n l)) (λ y k. arrayBlock g a' y k) (λ y. arrayBlock g a' y (g .d)) (λ y. arrayBlock g a' y (g .d + 1)) x two
+      (λ k j hk hj o e. whole-by r l L x k j hk hj o e) (λ k hk f. same k (omega arith) f) (same (g .d) (omega arith)) (same (g .d + 1) (omega arith)) i hi
+
+-- a block without a record
+no-records : (r : Shelf) (l : List ℕ) (x i : ℕ) → latest (words l) (r .geometry) (addressOf (r .geometry) x i) ≡ noneWord
+    → (oriBy (r .geometry) l x i ≡ none) × (curBy (r .geometry) l x i ≡ none)
+unfolding latest
+no-records r l x i e =
+    let w = said (words l) (r .geometry) (addressOf (r .geometry) x i) in
+    cases (eqb (w .cur) noneWord)
+    (λ t. (record-none (w .ori) (sym (choose-true (eqb (w .cur) noneWord) (w .ori) (w .cur) t) ∙ e), record-none (w .cur) (eqb-true (w .cur) noneWord t)))
+    (λ t. clash (eq-eqb (w .cur) noneWord (sym (choose-false (eqb (w .cur) noneWord) (w .ori) (w .cur) t) ∙ e)) t)
+
+-- the block worked back from those that are still missing
+module _ (r : Shelf) (a n l : List ℕ) (R : Rebuildable (lent r a n l)) (x : ℕ) (hx : x < r .geometry .s) (i : ℕ) (hi : i < r .geometry .d)
+    (fill : FilledBelow (lent r a n l) x i) (lost : Lost r l x i) (bytes : (k : ℕ) → getD a k 0 < 256) where
+  block-byte : (k j : ℕ) → j < r .geometry .b → getD (arrayBlock (r .geometry) a x k) j 0 < 256
+  block-byte k j hj =
+      subst (λ (v : ℕ). v < 256) (sym (getD-block (r .geometry .b) (place (r .geometry .d) (r .geometry .s) x k) a j hj))
+      (bytes (place (r .geometry .d) (r .geometry .s) x k * r .geometry .b + j))
+
+  alone : (y : ℕ) → y ≡ otherMissing (r .geometry) (missingBy r l x) i → y < i → (j : ℕ) → j < r .geometry .b
+      → solved (r .geometry .d) i i (column (original (r .geometry) (stateOf (lent r a n l)) x) j)
+      ≡ solved (r .geometry .d) i y (column (original (r .geometry) (stateOf (lent r a n l)) x) j)
+  unfolding stateOf
+  alone y e low j hj =
+      let g = r .geometry in
+      let none = no-records r l x i (lost .1) in
+      by-p-alone g (stateOf (lent r a n l)) x (R .two) (λ k m hk hm o t. whole-by r l (R .ready .listing) x k m hk hm o t) i hi (lost .0) (none .0) (none .1)
+      (R .ready .listing .range .d-most) y e low (λ f. fill y low f) (λ k hk. block-byte y k hk) (λ k hk. block-byte (g .d) k hk) j hj
+
+  pub refilled : (y z : ℕ) (work : List ℕ) → y ≡ otherMissing (r .geometry) (missingBy r l x) i → z ≡ stillMissing i y
+      → work ≡ solvedBlock (lent r a n l) x i z → work ≡ lostBlock (lent r a n l) x i
+  unfolding solvedBlock
+  refilled y z work e ez is =
+      let g = r .geometry in
+      cases (ltb y i)
+      (λ t.
+      let z-is : z ≡ i = ez ∙ choose-true (ltb y i) i y t in
+      is ∙ gen-ext (g .b) (λ j. solved (g .d) i z (column (original g (stateOf (lent r a n l)) x) j))
+      (λ j. solved (g .d) i y (column (original g (stateOf (lent r a n l)) x) j))
+      (λ j hj. ap (λ (k : ℕ). solved (g .d) i k (column (original g (stateOf (lent r a n l)) x) j)) z-is ∙ alone y e (ltb-true y i t) j hj)
+      ∙ worked r a n l (R .ready) x hx i y (solvedBlock (lent r a n l) x i y) e refl)
+      (λ t.
+      let z-is : z ≡ y = ez ∙ choose-false (ltb y i) i y t in
+      worked r a n l (R .ready) x hx i z work (z-is ∙ e) is)
+
+-- ---- one stripe
+
+-- the array a is a₀ but for the first c data blocks of stripe x, which are those of row
+pub record StripeFilled (g : Geometry) (row : ℕ → List ℕ) (a₀ : List ℕ) (x c : ℕ) (a : List ℕ) : Type 0 where
+  pub long : length a ≡ length a₀
+  pub here : (i : ℕ) → i < c → arrayBlock g a x i ≡ row i
+  pub rest : (y i : ℕ) → y < g .s → i < g .d + 2 → (y ≢ x) ⊎ (c ≤ i) → arrayBlock g a y i ≡ arrayBlock g a₀ y i
+
+-- stripe x of a is rebuilt from a₀: its data blocks are those of row, and where parity had failed, P and Q are theirs
+pub record StripeMade (g : Geometry) (parity : Bool) (row : ℕ → List ℕ) (a₀ : List ℕ) (x : ℕ) (a : List ℕ) : Type 0 where
+  pub long : length a ≡ length a₀
+  pub here : (i : ℕ) → i < g .d → arrayBlock g a x i ≡ row i
+  pub sound : parity ≡ false → (i : ℕ) → g .d ≤ i → i < g .d + 2 → arrayBlock g a x i ≡ arrayBlock g a₀ x i
+  pub p : parity ≡ true → arrayBlock g a x (g .d) ≡ blockP g row
+  pub q : parity ≡ true → arrayBlock g a x (g .d + 1) ≡ blockQ g row
+  pub others : (y i : ℕ) → y < g .s → i < g .d + 2 → y ≢ x → arrayBlock g a y i ≡ arrayBlock g a₀ y i
+
+-- blocks of different places
+apart : (d S y x i c : ℕ) → y < S → x < S → i < d + 2 → c < d + 2 → (y ≢ x) ⊎ (i ≢ c) → place d S y i ≢ place d S x c
+apart d S y x i c hy hx hi hc w e =
+    elim (ℕ-discrete y x) [
+      | yes q ↦ ⊎-elim (λ ne. ne q) (λ ne. ne (place-inj d S x i c hx hi hc (ap (λ (z : ℕ). place d S z i) (sym q) ∙ e))) w
+      | no ne ↦ place-other d S y x i c hy hx ne e
+    ]
+
+module _ (r : Shelf) (n l : List ℕ) (two : count (r .geometry .d + 2) (flagAt r) ≤ 2) (a : List ℕ) (R : Ready (lent r a n l)) (x : ℕ) (hx : x < r .geometry .s) where
+  abbrev g : Geometry
+  g = r .geometry
+
+  abbrev row : ℕ → List ℕ
+  row = servedBlock (lent r a n l) x
+
+  -- one more block
+  one-more : (c : ℕ) (b : List ℕ) → c < g .d → StripeFilled g row a x c b → StripeFilled g row a x (suc c) (filledAt (lent r b n l) x c)
+  unfolding filledAt
+  one-more c b hc F =
+      let v : List ℕ = servedBlock (lent r b n l) x c in
+      let R' = ready-with r a b n l R (F .long) in
+      let is : servedBlock (lent r b n l) x c ≡ row c =
+      given-alike r n l two (R .listing) a b x
+      (λ j hj f. elim (decLt j c) [
+        | yes p ↦ F .here j p ∙ sym (given-sound r a n l R x hx j f)
+        | no p ↦ F .rest x j hx hj (inr (omega arith))
+      ]) c hc in
+      let size : length (servedBlock (lent r b n l) x c) ≡ g .b = given-length r b n l R' x hx c hc in
+      let room : (y i : ℕ) → y < g .s → i < g .d + 2 → place (g .d) (g .s) y i * g .b + g .b ≤ length b =
+      λ y i hy hi. fits (place (g .d) (g .s) y i) ((g .d + 2) * g .s) (g .b) b (F .long ∙ R .array) (place-lt (g .d) (g .s) y i hy hi) in
+      let stays : (y i : ℕ) → y < g .s → i < g .d + 2 → (y ≢ x) ⊎ (i ≢ c)
+      → arrayBlock g (put (g .b) (place (g .d) (g .s) x c) v b) y i ≡ arrayBlock g b y i =
+      λ y i hy hi w. block-put-other (g .b) (place (g .d) (g .s) x c) (place (g .d) (g .s) y i) b v (room x c hx (omega arith)) (room y i hy hi) size
+      (apart (g .d) (g .s) y x i c hy hx hi (omega arith) w) in
+      record {
+        long = length-put (g .b) (place (g .d) (g .s) x c) b (room x c hx (omega arith)) v size ∙ F .long;
+        here = λ i h. elim (ℕ-discrete i c) [
+          | yes z ↦ ap (λ (k : ℕ). arrayBlock g (put (g .b) (place (g .d) (g .s) x c) v b) x k) z
+              ∙ block-put-same (g .b) (place (g .d) (g .s) x c) b v (room x c hx (omega arith)) size ∙ is ∙ ap row (sym z)
+          | no z ↦ stays x i hx (omega arith) (inr z) ∙ F .here i (omega arith)
+        ];
+        rest = λ y i hy hi w.
+            stays y i hy hi (⊎-elim (λ ne. inl ne) (λ le. inr (λ z. omega arith)) w) ∙ F .rest y i hy hi (⊎-elim (λ ne. inl ne) (λ le. inr (omega arith)) w);
+      }
+
+  filled-is : (c : ℕ) → c ≤ g .d → StripeFilled g row a x c (filledTo (lent r a n l) x c)
+  unfolding filledTo
+  filled-is zero h = record { long = refl; here = λ i p. absurd (omega arith); rest = λ y i hy hi w. refl }
+  filled-is (suc c) h = one-more c (filledTo (lent r a n l) x c) (omega arith) (filled-is c (omega arith))
+
+  -- what is filled is what a read gives of the array so far, too
+  filled-below : (c : ℕ) → c ≤ g .d → FilledBelow (lent r (filledTo (lent r a n l) x c) n l) x c
+  filled-below c h k low f =
+      let F = filled-is c h in
+      F .here k low
+      ∙ sym (given-alike r n l two (R .listing) a (filledTo (lent r a n l) x c) x
+      (λ j hj s. elim (decLt j c) [
+        | yes p ↦ F .here j p ∙ sym (given-sound r a n l R x hx j s)
+        | no p ↦ F .rest x j hx hj (inr (omega arith))
+      ]) k (omega arith))
+
+  stripe-is : (parity : Bool) → StripeMade g parity row a x (stripeRebuilt (lent r a n l) parity x)
+  unfolding stripeRebuilt choose
+  stripe-is false =
+      let F = filled-is (g .d) (omega arith) in
+      record {
+        long = F .long;
+        here = F .here;
+        sound = λ _ i low hi. F .rest x i hx hi (inr low);
+        p = λ e. clash e refl;
+        q = λ e. clash e refl;
+        others = λ y i hy hi ne. F .rest y i hy hi (inl ne);
+      }
+  stripe-is true =
+      let F = filled-is (g .d) (omega arith) in
+      let b : List ℕ = filledTo (lent r a n l) x (g .d) in
+      let W = rows b F in
+      let st = stateOf (lent r b n l) in
+      record {
+        long = made-reads g st x row b hx W .long ∙ sym (R .array);
+        here = λ i hi. in-row g st x row b hx W i hi;
+        sound = λ e. clash refl e;
+        p = λ _. in-p g st x row b hx W;
+        q = λ _. in-q g st x row b hx W;
+        others = λ y i hy hi ne. elsewhere g st x row b hx W y i hy hi ne ∙ F .rest y i hy hi (inl ne);
+      }
+    where
+      rows : (b : List ℕ) → StripeFilled g row a x (g .d) b → Rowed g (stateOf (lent r b n l)) x row b
+      rows b F =
+          unfold stateOf in record { long = F .long ∙ R .array; here = F .here; disk = λ y i hy ne hi. refl; p = λ y hy ne. refl; q = λ y hy ne. refl }
+
+pub below-so-far : (r : Shelf) (a n l : List ℕ) → Rebuildable (lent r a n l) → (x : ℕ) → x < r .geometry .s → (i : ℕ) → i ≤ r .geometry .d → (b : List ℕ)
+    → b ≡ filledTo (lent r a n l) x i → FilledBelow (lent r b n l) x i
+below-so-far r a n l R x hx i h b e =
+    subst (λ (z : List ℕ). FilledBelow (lent r z n l) x i) (sym e) (filled-below r n l (R .two) a (R .ready) x hx i h)
+
+-- ---- all stripes
+
+-- the first k stripes of a are those of the state t, the others those of s
+pub record RebuiltUpTo (g : Geometry) (s t : State) (k : ℕ) (a : List ℕ) : Type 0 where
+  pub long : length a ≡ arrayLength g
+  pub done : (y i : ℕ) → y < k → y < g .s → i < g .d + 2 → arrayBlock g a y i ≡ roleBlock g t y i
+  pub left : (y i : ℕ) → k ≤ y → y < g .s → i < g .d + 2 → arrayBlock g a y i ≡ roleBlock g s y i
+
+-- what is lent, read as a state, has the array's blocks
+reads-here : (r : Shelf) (a n l : List ℕ) (x i : ℕ) → i < r .geometry .d + 2 → roleBlock (r .geometry) (stateOf (lent r a n l)) x i ≡ arrayBlock (r .geometry) a x i
+unfolding stateOf
+reads-here r a n l x i hi =
+    let g = r .geometry in
+    let s = stateOf (lent r a n l) in
+    by-role g (λ k. roleBlock g s x k ≡ arrayBlock g a x k) (λ k hk. role-data g s x k hk) (role-p g s x) (role-q g s x) i hi
+
+-- t is the state rebuilt
+module _ (r : Shelf) (a n l : List ℕ) (two : count (r .geometry .d + 2) (flagAt r) ≤ 2) (R : Ready (lent r a n l)) (parity : Bool) (t : State)
+    (t-disk : (x i : ℕ) → t .disk x i ≡ servedBlock (lent r a n l) x i)
+    (sound-p : parity ≡ false → (x : ℕ) → t .p x ≡ stateOf (lent r a n l) .p x) (sound-q : parity ≡ false → (x : ℕ) → t .q x ≡ stateOf (lent r a n l) .q x)
+    (made-p : parity ≡ true → (x : ℕ) → t .p x ≡ blockP (r .geometry) (servedBlock (lent r a n l) x))
+    (made-q : parity ≡ true → (x : ℕ) → t .q x ≡ blockQ (r .geometry) (servedBlock (lent r a n l) x)) where
+  abbrev s : State
+  s = stateOf (lent r a n l)
+
+  -- stripe k, from an array whose first k stripes are rebuilt
+  module _ (k : ℕ) (hk : k < r .geometry .s) (b : List ℕ) (U : RebuiltUpTo (r .geometry) s t k b) where
+    abbrev o : List ℕ
+    o = stripeRebuilt (lent r b n l) parity k
+
+    given-here : (i : ℕ) → i < r .geometry .d → servedBlock (lent r b n l) k i ≡ servedBlock (lent r a n l) k i
+    given-here i hi = given-alike r n l two (R .listing) a b k (λ j hj _. U .left k j (omega arith) hk hj ∙ reads-here r a n l k j hj) i hi
+
+    made-here : StripeMade (r .geometry) parity (servedBlock (lent r b n l) k) b k (stripeRebuilt (lent r b n l) parity k)
+    made-here = stripe-is r n l two b (ready-with r a b n l R (U .long ∙ sym (R .array))) k hk parity
+
+    here-p : arrayBlock (r .geometry) o k (r .geometry .d) ≡ t .p k
+    here-p =
+        cases parity
+        (λ e. made-here .p e ∙ blockP-ext (r .geometry) (servedBlock (lent r b n l) k) (servedBlock (lent r a n l) k) given-here ∙ sym (made-p e k))
+        (λ e. made-here .sound e (r .geometry .d) (omega arith) (omega arith) ∙ U .left k (r .geometry .d) (omega arith) hk (omega arith) ∙ role-p (r .geometry) s k ∙ sym (sound-p e k))
+
+    here-q : arrayBlock (r .geometry) o k (r .geometry .d + 1) ≡ t .q k
+    here-q =
+        cases parity
+        (λ e. made-here .q e ∙ blockQ-ext (r .geometry) (servedBlock (lent r b n l) k) (servedBlock (lent r a n l) k) given-here ∙ sym (made-q e k))
+        (λ e. made-here .sound e (r .geometry .d + 1) (omega arith) (omega arith) ∙ U .left k (r .geometry .d + 1) (omega arith) hk (omega arith) ∙ role-q (r .geometry) s k ∙ sym (sound-q e k))
+
+    here : (i : ℕ) → i < r .geometry .d + 2 → arrayBlock (r .geometry) o k i ≡ roleBlock (r .geometry) t k i
+    here =
+        by-role (r .geometry) (λ i. arrayBlock (r .geometry) o k i ≡ roleBlock (r .geometry) t k i)
+        (λ i hi. made-here .here i hi ∙ given-here i hi ∙ sym (t-disk k i) ∙ sym (role-data (r .geometry) t k i hi))
+        (here-p ∙ sym (role-p (r .geometry) t k)) (here-q ∙ sym (role-q (r .geometry) t k))
+
+    next-stripe : RebuiltUpTo (r .geometry) s t (suc k) (stripeRebuilt (lent r b n l) parity k)
+    next-stripe =
+        record {
+          long = made-here .long ∙ U .long;
+          done = λ y i hy hs hi. elim (ℕ-discrete y k) [
+            | yes z ↦ ap (λ (w : ℕ). arrayBlock (r .geometry) o w i) z ∙ here i hi ∙ ap (λ (w : ℕ). roleBlock (r .geometry) t w i) (sym z)
+            | no z ↦ made-here .others y i hs hi z ∙ U .done y i (omega arith) hs hi
+          ];
+          left = λ y i hy hs hi. made-here .others y i hs hi (λ z. omega arith) ∙ U .left y i (omega arith) hs hi;
+        }
+
+  rebuilt-is : (k : ℕ) → k ≤ r .geometry .s → RebuiltUpTo (r .geometry) s t k (rebuiltTo (lent r a n l) parity k)
+  unfolding rebuiltTo
+  rebuilt-is zero h = record { long = R .array; done = λ y i hy hs hi. absurd (omega arith); left = λ y i hy hs hi. sym (reads-here r a n l y i hi) }
+  rebuilt-is (suc k) h = next-stripe k (omega arith) (rebuiltTo (lent r a n l) parity k) (rebuilt-is k (omega arith))
+
+  pub rebuilt-reads : HoldsArray (r .geometry) t (rebuiltTo (lent r a n l) parity (r .geometry .s))
+  rebuilt-reads =
+      let U = rebuilt-is (r .geometry .s) (omega arith) in
+      record { long = U .long; blocks = λ x i hx hi. sym (U .done x i hx hx hi) }

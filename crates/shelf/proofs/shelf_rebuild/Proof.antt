@@ -1,0 +1,62 @@
+-- `shelf::shelf_rebuild` meets its contract.
+-- Assumes nothing.
+use mathlib.Core.Path.{_∙_, sym}
+use Rattle.shelf.specs.Lent.{lent}
+use Rattle.shelf.specs.Status.{rebuild}
+use Rattle.shelf.proofs.lent.LeavesLaws.{refused-answered}
+use Rattle.shelf.proofs.calls.RebuildLaws.{rebuild-answered, rebuild-asks}
+use borrow.Author.Needs.{needs}
+use Rattle.shelf.proofs.shelf_rebuild.Statement.{statement}
+use Rattle.shelf.proofs.shelf_rebuild.Tie as tie
+
+rebuild-code-requires : tie.Need-rebuild-code-requires
+rebuild-code-requires c κs = search needs
+
+same-length : tie.Need-same-length
+same-length c = search needs
+
+returns : tie.Need-returns
+returns c =
+    let a = c .before .before .before .before .before .before .args in
+    refused-answered (lent (a .shelf) (a .array .now) (a .log .now) (a .list .now)) rebuild (c .before .rebuild-code .result) (c .before .rebuild-code .ensures) (c .if1 .taken)
+
+parity-failed-requires : tie.Need-parity-failed-requires
+parity-failed-requires c κs =
+    let a = c .before .before .before .before .before .before .args in
+    rebuild-asks (a .shelf) (a .array .now) (a .log .now) (a .list .now) (sym (c .if1 .left) ∙ c .before .rebuild-code .ensures) .ready .listing .range
+
+rebuild-array-requires : tie.Need-rebuild-array-requires
+rebuild-array-requires c κs =
+    let a = c .before .before .before .before .before .before .before .before .before .args in
+    rebuild-asks (a .shelf) (a .array .now) (a .log .now) (a .list .now) (sym (c .before .before .before .if1 .left) ∙ c .before .before .before .before .rebuild-code .ensures)
+
+settle-requires : tie.Need-settle-requires
+settle-requires c κs =
+    let a = c .before .before .before .before .before .before .before .before .before .before .before .before .before .args in
+    rebuild-asks (a .shelf) (a .array .now) (a .log .now) (a .list .now) (sym (c .before .before .before .before .before .before .before .if1 .left) ∙ c .before .before .before .before .before .before .before .before .rebuild-code .ensures) .ready .listing .range .d-most
+
+same-length-2 : tie.Need-same-length-2
+same-length-2 c = search needs
+
+same-length-3 : tie.Need-same-length-3
+same-length-3 c = search needs
+
+returns-2 : tie.Need-returns-2
+returns-2 c =
+    let a = c .before .before .before .before .before .before .before .before .before .before .before .before .before .before .before .before .args in
+    rebuild-answered (a .shelf) (a .array .now) (a .log .now) (a .list .now) (sym (c .before .before .before .before .before .before .before .before .before .before .if1 .left) ∙ c .before .before .before .before .before .before .before .before .before .before .before .rebuild-code .ensures) (c .before .before .before .before .before .before .before .before .before .parity-failed .result) (c .before .before .before .before .before .before .before .before .before .parity-failed .ensures) (c .before .before .settle .result) (c .before .before .before .before .before .before .rebuild-array .last .1 .1 .0) (c .before .before .settle .last .1 .1 .0)
+    (c .before .before .before .before .before .before .rebuild-array .ensures) (c .before .before .settle .ensures .0) (c .before .before .settle .ensures .1)
+
+pub shelf-rebuild-spec : {M : Type 1} → statement M
+shelf-rebuild-spec =
+    tie.close
+    (tie.spec
+    rebuild-code-requires
+    same-length
+    returns
+    parity-failed-requires
+    rebuild-array-requires
+    settle-requires
+    same-length-2
+    same-length-3
+    returns-2)
