@@ -1,15 +1,32 @@
 /* shelf.h: the record shelf, a log-assisted RAID-6 array. Link with libshelf.a.
  *
+ *
+ * What it is
+ * ----------
+ *
  * A shelf has d data disks, P and Q, S stripes of blocks of B bytes, a log of L records of B bytes, and a list of the
  * blocks whose parity is put off: H hash slots and E places. The members are numbered: data 0 to d - 1, P is d, Q is
- * d + 1, the log is d + 2. The block with address a, 0 to d * S - 1, is in stripe a / d, rounded down, on data disk
- * a mod d.
+ * d + 1, the log is d + 2; the array members are all but the log. The block with address a, 0 to d * S - 1, is in
+ * stripe a / d, rounded down, on data disk a mod d.
  *
- * The numbers of a call are size_t of 64 bits: an array may have more than 2 to the 32nd bytes.
+ * The parity of a stripe, P and Q, is that of stripe.h. A write makes it at once, or puts it off: then it appends
+ * blocks to the log, lists them, stores the new blocks on their disks and leaves P and Q as they were. A stripe with a
+ * listed block is stale; a resync makes its parity later. Two members may have failed at a time, the log included, and
+ * blocks of failed disks are read all the same (degraded read), save in one state that is named below.
+ *
+ * On a shelf that these calls alone have changed since shelf_format, each call given the record that the one before
+ * handed back, and the bytes of failed members left aside, every block that a read hands over and every block that a
+ * rebuild puts on a failed data disk is the one last written at its address, or zeros if none was. A member is trusted
+ * until shelf_fail has noted its failure, so a driver reports a failure before it makes another call. Nothing is
+ * promised of record and buffers if a call was cut short.
+ *
+ *
+ * Buffers
+ * -------
  *
  * The shelf is a record and three buffers, all the caller's; the library keeps nothing between calls and allocates
- * nothing. A call takes the record by value and hands the new one back. The buffers are at any alignment and do not
- * overlap:
+ * nothing. A call takes the record by value and hands the new one back. Arguments and fields of the record, but buffers
+ * and flags, are size_t, of 64 bits. The buffers are at any alignment, and those of one call do not overlap:
  *
  *     buffer   bytes               what stands where
  *     array    (d + 2) * S * B     the block of member m in stripe t, B bytes, at (m * S + t) * B;
@@ -22,19 +39,170 @@
  *                                      + 8   Cur, the log record of its latest value
  *                                      + 12  Next, the next place of the chain
  *
+ * The largest shelf has 4,831,838,208 bytes of array, 268,435,456 of log and 66,560 of list.
+ *
  * A word has 32 bits, lowest byte first; SHELF_NONE is none. Heads and Next are place numbers or none, Ori and Cur are
  * numbers of log records or none, but not both none. The slot of address a is a mod H: the slot's chain begins at its
- * head and goes on by Next until none. A place is listed if a chain comes to it. The order of a chain, the choice of
- * the places and what the unlisted ones hold are open.
+ * head and goes on by Next until none. A place is listed if a chain comes to it. An original is the block that P and Q
+ * of its stripe were made of. The order of a chain, the choice of the places and what the unlisted ones hold are open.
  *
- * Every call takes any numbers and any lengths. It answers 0, or it refuses with the first number that applies, in
- * rising order; a refusal stores nothing and hands the record back as it was given. Calls may run at the same time, in
- * any number of threads, as long as their buffers do not overlap. There is no recursion; a call needs less than a page
- * of stack.
+ * What each call stores into the buffers:
  *
- * All calls but shelf_format test the whole list. They look up each listed block in its slot's chain, and the other
- * blocks of a stripe in which one lacks Ori, so the time grows with the count of listed blocks times the length of the
- * chains.
+ *     call                array                                  log                     list
+ *     shelf_format        all of it                              all of it               all of it
+ *     shelf_write         the blocks written; P and Q of a       free records, if a      the entries of the stripes
+ *                         stripe that is not logged              stripe is logged        written, if they change
+ *     shelf_resync        P and Q of the stripe made             nothing                 the entries of that stripe
+ *     shelf_rebuild       the failed data disks; P and Q of      nothing                 all entries dropped, if P or
+ *                         every stripe, if P or Q had failed                             Q had failed; else nothing
+ *     shelf_full_resync   P and Q of every stripe                nothing                 all of it
+ *     shelf_read          nothing: it stores into the caller's data
+ *     shelf_start, shelf_fail, shelf_new_log                     nothing
+ *
+ * Where entries of the list change, the others say what they said, but may stand in other places. Then, and after
+ * shelf_full_resync always, the unlisted places may hold anything. All else keeps its bytes, and a buffer into which a
+ * call never stores is const.
+ *
+ * Threads: calls that store into none of the shelf's buffers (shelf_read with data of its own, shelf_start, shelf_fail,
+ * shelf_new_log) may run at the same time over the same buffers, in any number. Each hands back a record of its own,
+ * made from the one that it was given, and the caller decides which one counts: two shelf_fail that are given the same
+ * record hand back two records with a new flag each, and none with both. A call that takes a buffer as not const runs
+ * while no other call is given that buffer. Calls over other buffers are independent.
+ *
+ * Failed members: no number, no record and no byte that a call stores depends on the bytes of a failed member, so they
+ * may be anything, and may change between calls. Only shelf_rebuild stores into a failed array member, and nothing
+ * stores into a failed log, save that shelf_format looks at no flag and stores into all. So a new disk takes the place
+ * of the failed one in the array before shelf_rebuild; the bytes of a new log may be anything.
+ *
+ * Record and list belong together: next and listed tell of this list and no other. A driver that keeps them on a disk
+ * saves both or neither, as one call left them, with the array and the log of the same moment. An older list with a
+ * newer record can pass every test, and a read then gives an older block. The flags of a record are bytes of 0 or 1: a
+ * record that was read from a disk is tested for this by the driver, since a call cannot.
+ *
+ * Stack: shelf_write needs up to 104 KiB of stack, shelf_resync 52 KiB, shelf_read and shelf_rebuild 8 KiB, the others
+ * less than 1 KiB (as compiled here for x86-64), and there is no recursion. Most of it goes to working slices of 48 KiB
+ * for the list's entries, two in shelf_write and one in shelf_resync, and in shelf_read and shelf_rebuild to a working
+ * block of 4,096 bytes and a table of 256 products.
+ *
+ *
+ * Calls
+ * -----
+ *
+ * Every call takes any numbers and any lengths, and ends. It answers 0, or it refuses with the first number that
+ * applies, in rising order; a refusal stores nothing, neither in the shelf's buffers nor in the caller's data, and
+ * hands the record back as it was given.
+ *
+ *     call                what it does                                           numbers, in the order tried
+ *     shelf_format        sets up a fresh shelf                                  1  2
+ *     shelf_start         goes from mode 0 to mode 1: parity is put off          1  2  3  7  8  9
+ *     shelf_fail          notes that a member has failed                         1  2  3  6 10 11
+ *     shelf_write         writes blocks                                          1  2  3  4  5  8
+ *     shelf_read          reads blocks, from failed disks too                    1  2  3  4  5 14
+ *     shelf_resync        makes the parity of the lowest stale stripe            1  2  3  7  8
+ *     shelf_rebuild       fills all failed array members                         1  2  3 12 14
+ *     shelf_new_log       takes a new log into use                               1  2  3 12 13
+ *     shelf_full_resync   makes the parity of all stripes, empties the list      1  2  8
+ *
+ * Time: every call but shelf_format and shelf_full_resync tests the whole list. It looks up each listed block in its
+ * slot's chain, and the other blocks of a stripe in which one lacks Ori, so the time grows with the count of listed
+ * blocks times the length of the chains, which many slots keep short. To alter the list, a call goes through all E
+ * places, looks each listed block up again and writes the list anew: shelf_write once for each stripe that is logged or
+ * whose entries are dropped, shelf_resync once, after it has gone through the places to find the stripe. A list in
+ * another order than the library writes is sorted by insertion when it is altered, by up to E * E / 2 moves. To work a
+ * block back by parity, d others are read; if another data block of the stripe is missing too, those that are data are
+ * read twice.
+ *
+ *
+ * States
+ * ------
+ *
+ * A shelf is sound if no member has failed and no stripe is stale. The modes:
+ *
+ *     mode                what holds                            what a write does with a stripe
+ *     0  normal           no block is listed                    makes its parity at once
+ *     1  accelerating     the log is sound; blocks may be       logs it, if log and list have room for it;
+ *                         listed                                else makes its parity at once
+ *     2  transitional     blocks are listed                     makes its parity at once, drops its listed blocks
+ *
+ * Mode 0 becomes 1 by shelf_start alone. Mode 1 becomes 2 or, if no block is listed, 0 where the log fails; it becomes
+ * 2 or, if no block is left listed, 0 by shelf_resync. Mode 2 becomes 0 as soon as no block is left listed, by
+ * shelf_resync or shelf_write. Any mode becomes 0 by shelf_format, by shelf_full_resync, and by shelf_rebuild if P or Q
+ * had failed. All else leaves the mode as it is: a write in mode 0 or 1, a failure of an array member, a failure of the
+ * log in mode 0 or 2, a rebuild of data disks alone, a read, a new log.
+ *
+ * What the calls answer in each state, where the record, the lengths, the list and the request are in order. "data" is
+ * one or two data disks and no parity; "P or Q" is one of them or both, or one of them and a data disk (with the log
+ * failed, one array member at most has failed). The mode is one that the state can have.
+ *
+ *     failed in   log      a stripe   mode      start   write   resync   rebuild   new_log   full_resync
+ *     the array            is stale
+ *     none        sound    no         0           0       0       7        12        12          0
+ *     none        sound    no         1           7       0       0        12        12          0
+ *     none        sound    yes        1, 2        7       0       0        12        12          0
+ *     none        failed   no         0           9       0       7        12         0          0
+ *     none        failed   yes        2           7       0       0        12        13          0
+ *     data        sound    no         0           8       8       7         0        12          8
+ *     data        sound    no         1           7       8       8         0        12          8
+ *     data        sound    yes        1, 2        7       8       8         0        12          8
+ *     data        failed   no         0           8       8       7         0         0          8
+ *     data        failed   yes        2           7       8       8        14        13          8
+ *     P or Q      sound    no         0           8       8       7         0        12          8
+ *     P or Q      sound    no         1           7       8       8         0        12          8
+ *     P or Q      sound    yes        1, 2        7       8       8         0        12          8
+ *     P or Q      failed   no         0           8       8       7         0         0          8
+ *     P or Q      failed   yes        2           7       8       8         0        13          8
+ *
+ * shelf_read answers 0 in all of them; only with a data disk and the log failed and a stripe stale does it answer 14 if
+ * it asks for a block on the failed disk in a stale stripe. shelf_fail answers 0 for a sound member while fewer than
+ * two have failed, 11 for a sound member while two have failed, and 10 for a member that has failed.
+ *
+ * The way back to a sound shelf, each call of which is accepted; after it the mode is 0, or as said:
+ *
+ *     failed in   log      a stripe   calls
+ *     the array            is stale
+ *     none        sound    yes        shelf_resync until the mode is 0; or shelf_full_resync
+ *     none        failed   no         shelf_new_log
+ *     none        failed   yes        shelf_resync until the mode is 0, or shelf_full_resync; then shelf_new_log
+ *     data        sound    no         shelf_rebuild; the mode remains
+ *     data        sound    yes        shelf_rebuild; then shelf_resync until the mode is 0, or shelf_full_resync
+ *     data        failed   no         shelf_rebuild and shelf_new_log, in either order
+ *     data        failed   yes        none: see below
+ *     P or Q      sound    either     shelf_rebuild
+ *     P or Q      failed   no         shelf_rebuild and shelf_new_log, in either order
+ *     P or Q      failed   yes        shelf_rebuild, then shelf_new_log
+ *
+ * With k stripes stale and no array member failed, k calls of shelf_resync lead to mode 0, and no fewer; in mode 1 with
+ * none stale, one does. shelf_rebuild fills all failed array members in one call. A sound shelf in mode 0 takes
+ * shelf_start again.
+ *
+ * A data disk and the log failed while a stripe is stale: there is no way back. shelf_rebuild gets 14, shelf_write 8,
+ * and so do shelf_resync and shelf_full_resync; shelf_new_log gets 13, shelf_start 7. No call changes the shelf any
+ * more, save shelf_format. What can be read are all blocks on sound disks, and those of the failed disk in stripes that
+ * are not stale. So when the log fails while a stripe is stale, resync at once; and when a data disk fails while a
+ * stripe is stale, rebuild and resync at once.
+ *
+ * SHELF_WITHHELD (14) refuses a read as a whole and names no block. To read those that are not withheld, ask again
+ * block by block.
+ *
+ * A third failure cannot be noted: shelf_fail answers 11, and the calls go on trusting the member. Make no other call
+ * then than one that clears a flag and does not look at that member, and report it after that: shelf_new_log, if the
+ * log is one of the two and no block is listed; shelf_rebuild, if the third is the log, and no stripe is stale or P and
+ * Q are the two, or if the two are the log and one of P and Q, and the third is the other of these.
+ *
+ * The list is lost (SHELF_BAD_LIST, 3): every call but shelf_format and shelf_full_resync answers 3, shelf_fail too, so
+ * a disk that fails now cannot be reported. shelf_full_resync does not look at the list. It trusts every data disk:
+ * with a dead one it makes P and Q of garbage, and the blocks of that disk cannot be recovered afterwards. So the
+ * driver makes sure that all data disks work before it calls. With the flag of an array member set the call answers 8,
+ * and no call leads on; a failed log does not hinder it. If the record is lost too, one with the geometry, mode 0, next
+ * 0, listed 0, and no flag but that of a failed log serves as well.
+ *
+ * The log's cycle: to log a stripe takes a record for each block that is written and each that is pre-read, and a place
+ * for each of these blocks that is not yet listed; at most d of either. Records are not used again one by one: next
+ * goes back to 0 when the last listed block is dropped, and at no other time. Where log or list have no room for a
+ * stripe, its parity is made at once and its entries are dropped, other stripes keep theirs, the mode remains 1, and
+ * nothing is refused: the write only takes the time that was to be put off. In mode 1 a stripe is sure to be logged
+ * while next + d is at most L and listed + d at most E. So watch both; when one of them comes near, call shelf_resync
+ * until the mode is 0, then shelf_start.
  */
 #ifndef KUMIROVE_SHELF_H
 #define KUMIROVE_SHELF_H
@@ -79,14 +247,18 @@ extern "C" {
 #define SHELF_BAD_RECORD 1      /* a measure is outside its range, or the rest of the record is impossible: see below */
 #define SHELF_BAD_LENGTH 2      /* array_len, log_len or list_len is not what the measures ask for */
 #define SHELF_BAD_LIST 3        /* the list is impossible: see below */
+#define SHELF_BAD_ADDRESS 4     /* count is 0, or address + count is above d * S, as a sum without overflow */
+#define SHELF_BAD_DATA 5        /* data_len is not count * B */
 #define SHELF_BAD_MEMBER 6      /* the member is above d + 2 */
-#define SHELF_WRONG_MODE 7      /* the mode is not 0 (shelf_start) */
+#define SHELF_WRONG_MODE 7      /* the mode is not 0 (shelf_start); the mode is 0 (shelf_resync) */
 #define SHELF_ARRAY_FAILED 8    /* a member of the array, 0 to d + 1, has failed */
 #define SHELF_LOG_FAILED 9      /* the log has failed */
 #define SHELF_ALREADY_FAILED 10 /* the member has already failed */
 #define SHELF_TWO_FAILED 11     /* two members have already failed */
-#define SHELF_NOT_FAILED 12     /* the log is sound (shelf_new_log) */
+#define SHELF_NOT_FAILED 12     /* no array member has failed (shelf_rebuild); the log is sound (shelf_new_log) */
 #define SHELF_LISTED 13         /* blocks are listed */
+#define SHELF_WITHHELD 14       /* the log has failed, and a block that is asked for (shelf_read), or any data block
+                                 * (shelf_rebuild), is on a failed disk in a stale stripe */
 #define SHELF_OK 0
 
 /* The record gets SHELF_BAD_RECORD, beside measures outside their ranges, where
@@ -95,16 +267,18 @@ extern "C" {
  *   - a flag above that of member d + 2 is set, or more than two flags are;
  *   - next is above L, listed is above E, or listed is 0 and next above 0.
  *
- * shelf_format looks at the measures only. The list gets SHELF_BAD_LIST, from all calls but shelf_format, where
+ * shelf_format looks at the measures only. The list gets SHELF_BAD_LIST, from all calls but shelf_format and
+ * shelf_full_resync, where
  *
- *   - a chain comes to a place that it or another chain has come to, or to a number that is no place;
+ *   - a chain comes to a place that it or another chain has come to, or to a number that is neither none nor a place;
  *   - the count of the listed places is not listed;
  *   - a listed place has an address that is not below d * S, that belongs to another slot, or that another listed place
  *     has too;
  *   - its Ori or Cur is neither none nor below next, or both are none;
  *   - its Ori is none and a block of its stripe is not listed.
  *
- * Two listed places may have the same log record.
+ * Two listed places may have the same log record. After shelf_format, record and list as the calls left them never get
+ * SHELF_BAD_RECORD or SHELF_BAD_LIST.
  */
 
 /* The measures of a shelf. */
@@ -123,12 +297,19 @@ struct shelf_record {
     size_t mode;              /* SHELF_NORMAL, SHELF_ACCELERATING or SHELF_TRANSITIONAL */
     size_t next;              /* the next free record of the log: those below it are used */
     size_t listed;            /* how many blocks are listed */
-    bool failed[SHELF_FLAGS]; /* whether member i has failed; a byte each, 0 or 1 and nothing else */
+    bool failed[SHELF_FLAGS]; /* whether member i has failed; a byte each, 0 or 1 and nothing else, in every call */
 };
 
 /* What a call hands back: its number, and the record after it. */
 struct shelf_answer {
     size_t code;
+    struct shelf_record shelf;
+};
+
+/* What shelf_resync hands back: its number, the stripe that it made, and the record after it. */
+struct shelf_resynced {
+    size_t code;
+    size_t stripe; /* S where none was stale, and where the call is refused */
     struct shelf_record shelf;
 };
 
@@ -138,10 +319,16 @@ struct shelf_answer {
  *   array, array_len   the array, not NULL, and how many bytes it has
  *   log, log_len       the log, not NULL, and how many bytes it has
  *   list, list_len     the list, not NULL, and how many bytes it has
+ *
+ * and shelf_write and shelf_read besides
+ *
+ *   address, count     the first block's address, and how many blocks: at least 1, up to the last address
+ *   data, data_len     the caller's data, not NULL, and how many bytes it has: count * B; the blocks stand in it in the
+ *                      order of their addresses
  */
 
-/* Sets up a fresh shelf of the record's geometry. What else is in the record, and what the buffers hold, may be
- * anything.
+/* Sets up a fresh shelf of the record's geometry. What else is in the record may be anything, but that its flags are
+ * bytes of 0 or 1; what the buffers hold may be anything.
  *
  * Answers 0, 1 or 2. With 0, every byte of array and log is 0 and every word of the list is none; the record handed
  * back has the geometry, mode 0, next 0, listed 0 and no flag set.
@@ -151,29 +338,86 @@ struct shelf_answer shelf_format(struct shelf_record shelf, uint8_t *array, size
 
 /* Goes from mode 0 to mode 1.
  *
- * Answers 0, 1, 2, 3, 7, 8 or 9, and stores nothing in the buffers. With 0, the record handed back is the given one in
- * mode 1.
+ * Answers 0, 1, 2, 3, 7, 8 or 9. With 0, the record handed back is the given one in mode 1.
  */
-struct shelf_answer shelf_start(struct shelf_record shelf, uint8_t *array, size_t array_len, uint8_t *log,
-                                size_t log_len, uint8_t *list, size_t list_len);
+struct shelf_answer shelf_start(struct shelf_record shelf, const uint8_t *array, size_t array_len, const uint8_t *log,
+                                size_t log_len, const uint8_t *list, size_t list_len);
 
 /* Notes that a member has failed.
  *
  *   member   0 to d + 2
  *
- * Answers 0, 1, 2, 3, 6, 10 or 11, and stores nothing in the buffers. With 0, the record handed back is the given one
- * with the member's flag set; if the member is the log, mode 1 becomes 2 where blocks are listed, else 0.
+ * Answers 0, 1, 2, 3, 6, 10 or 11. With 0, the record handed back is the given one with the member's flag set; if the
+ * member is the log, mode 1 becomes 2 where blocks are listed, else 0.
  */
-struct shelf_answer shelf_fail(struct shelf_record shelf, size_t member, uint8_t *array, size_t array_len, uint8_t *log,
-                               size_t log_len, uint8_t *list, size_t list_len);
+struct shelf_answer shelf_fail(struct shelf_record shelf, size_t member, const uint8_t *array, size_t array_len,
+                               const uint8_t *log, size_t log_len, const uint8_t *list, size_t list_len);
+
+/* Writes blocks.
+ *
+ * Answers 0, 1, 2, 3, 4, 5 or 8. With 0, the blocks are on their data disks. The stripes are taken in rising order, and
+ * each is finished before the next:
+ *
+ *   - In mode 1, if log and list have room for it, the stripe is logged. The unlisted ones of the blocks to be written
+ *     are pre-read (read-modify-write), or the unlisted ones of the stripe's other blocks, if these are fewer
+ *     (reconstruction-write). The pre-read blocks are appended to the log in the order of their addresses and noted as
+ *     Ori, then the new ones as Cur, and all of them are listed. P and Q stay, and the stripe is stale.
+ *   - Else P and Q are made, and the stripe's listed blocks are dropped. The stripe is not stale.
+ *
+ * In the record handed back, next is above the records taken, and listed counts the blocks that are listed now.
+ * Whenever the last listed block is dropped, next becomes 0 and mode 2 becomes 0; mode 1 remains.
+ */
+struct shelf_answer shelf_write(struct shelf_record shelf, size_t address, size_t count, const uint8_t *data,
+                                size_t data_len, uint8_t *array, size_t array_len, uint8_t *log, size_t log_len,
+                                uint8_t *list, size_t list_len);
+
+/* Reads blocks.
+ *
+ * Answers 0, 1, 2, 3, 4, 5 or 14. With 0, data holds the blocks; else it has the bytes that it had. The record handed
+ * back is the given one. A block on a sound disk is taken from there. A block on a failed disk is taken from its Cur,
+ * else from its Ori, else it is worked back by parity from the originals of its stripe: a listed block's Ori, an
+ * unlisted one's bytes if its disk is sound, and P and Q as far as they are sound.
+ */
+struct shelf_answer shelf_read(struct shelf_record shelf, size_t address, size_t count, uint8_t *data, size_t data_len,
+                               const uint8_t *array, size_t array_len, const uint8_t *log, size_t log_len,
+                               const uint8_t *list, size_t list_len);
+
+/* Makes P and Q of the lowest stale stripe and drops its listed blocks.
+ *
+ * Answers 0, 1, 2, 3, 7 or 8, and the stripe. With 0 and a stripe below S, that stripe was made; in the record handed
+ * back, listed is less by the blocks dropped, and the mode is 2, or, if no block is left listed, the mode and next are
+ * 0. With 0 and the stripe S, none was stale: nothing is stored, and the record handed back is the given one in mode 0.
+ * With another number the stripe is the s of the record as it was given, whatever that is.
+ */
+struct shelf_resynced shelf_resync(struct shelf_record shelf, uint8_t *array, size_t array_len, const uint8_t *log,
+                                   size_t log_len, uint8_t *list, size_t list_len);
+
+/* Fills all failed array members.
+ *
+ * Answers 0, 1, 2, 3, 12 or 14. With 0, every failed data disk holds what shelf_read would give, and the record handed
+ * back has no flag of an array member set; the log's flag is as it was. If P or Q had failed, P and Q of every stripe
+ * are made, the list is emptied, and the record has listed 0, next 0 and mode 0. Else the list, listed, next and the
+ * mode remain.
+ */
+struct shelf_answer shelf_rebuild(struct shelf_record shelf, uint8_t *array, size_t array_len, const uint8_t *log,
+                                  size_t log_len, uint8_t *list, size_t list_len);
 
 /* Takes a new log into use in place of the failed one.
  *
- * Answers 0, 1, 2, 3, 12 or 13, and stores nothing in the buffers. With 0, the record handed back is the given one with
- * the log's flag cleared.
+ * Answers 0, 1, 2, 3, 12 or 13. With 0, the record handed back is the given one with the log's flag cleared; its mode
+ * is 0.
  */
-struct shelf_answer shelf_new_log(struct shelf_record shelf, uint8_t *array, size_t array_len, uint8_t *log,
-                                  size_t log_len, uint8_t *list, size_t list_len);
+struct shelf_answer shelf_new_log(struct shelf_record shelf, const uint8_t *array, size_t array_len, const uint8_t *log,
+                                  size_t log_len, const uint8_t *list, size_t list_len);
+
+/* Makes P and Q of every stripe from the data disks as they stand, whatever the list holds, and empties the list: for a
+ * list that was lost, or in place of many resyncs.
+ *
+ * Answers 0, 1, 2 or 8. With 0, no block is listed and every head of the list is none; the record handed back is the
+ * given one with listed 0, next 0 and mode 0.
+ */
+struct shelf_answer shelf_full_resync(struct shelf_record shelf, uint8_t *array, size_t array_len, const uint8_t *log,
+                                      size_t log_len, uint8_t *list, size_t list_len);
 
 #ifdef __cplusplus
 }

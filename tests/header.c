@@ -10,8 +10,25 @@
 
 typedef uint32_t (*make_call)(uint32_t, uint32_t, uint8_t *, size_t);
 typedef uint32_t (*recover_call)(uint32_t, uint32_t, uint32_t, uint32_t, uint8_t *, size_t);
-typedef struct shelf_answer (*shelf_call)(struct shelf_record, uint8_t *, size_t, uint8_t *, size_t, uint8_t *, size_t);
-typedef struct shelf_answer (*fail_call)(struct shelf_record, size_t, uint8_t *, size_t, uint8_t *, size_t, uint8_t *,
+
+/* Format stores into all three buffers; start and new log only look at them, and fail takes a member besides. */
+typedef struct shelf_answer (*format_call)(struct shelf_record, uint8_t *, size_t, uint8_t *, size_t, uint8_t *,
+                                           size_t);
+typedef struct shelf_answer (*look_call)(struct shelf_record, const uint8_t *, size_t, const uint8_t *, size_t,
+                                         const uint8_t *, size_t);
+typedef struct shelf_answer (*fail_call)(struct shelf_record, size_t, const uint8_t *, size_t, const uint8_t *, size_t,
+                                         const uint8_t *, size_t);
+
+/* Write looks at the caller's data and stores into the rest; read does the reverse. */
+typedef struct shelf_answer (*write_call)(struct shelf_record, size_t, size_t, const uint8_t *, size_t, uint8_t *,
+                                          size_t, uint8_t *, size_t, uint8_t *, size_t);
+typedef struct shelf_answer (*read_call)(struct shelf_record, size_t, size_t, uint8_t *, size_t, const uint8_t *,
+                                         size_t, const uint8_t *, size_t, const uint8_t *, size_t);
+
+/* Resync, rebuild and full resync store into array and list and look at the log; resync tells a stripe besides. */
+typedef struct shelf_resynced (*resync_call)(struct shelf_record, uint8_t *, size_t, const uint8_t *, size_t, uint8_t *,
+                                             size_t);
+typedef struct shelf_answer (*mend_call)(struct shelf_record, uint8_t *, size_t, const uint8_t *, size_t, uint8_t *,
                                          size_t);
 
 /* Makes a stripe, recovers two blocks of it and has each number answered once. Hands back the number of the first check
@@ -37,7 +54,7 @@ static int stripe_calls(void)
     return 0;
 }
 
-/* Compares the compiler's layout of the record and the answer with the library's: numbers of eight bytes in the order
+/* Compares the compiler's layout of the record and the answers with the library's: numbers of eight bytes in the order
  * of the header, then nineteen flags of one byte, and no gap before the last. */
 static int shelf_layout(void)
 {
@@ -57,8 +74,12 @@ static int shelf_layout(void)
         return 12;
     if (sizeof(struct shelf_geometry) != 48 || sizeof(struct shelf_record) != 96)
         return 13;
-    if (offsetof(struct shelf_answer, shelf) != 8 || sizeof(struct shelf_answer) != 104)
+    if (offsetof(struct shelf_answer, code) != 0 || offsetof(struct shelf_answer, shelf) != 8 ||
+        sizeof(struct shelf_answer) != 104)
         return 14;
+    if (offsetof(struct shelf_resynced, code) != 0 || offsetof(struct shelf_resynced, stripe) != 8 ||
+        offsetof(struct shelf_resynced, shelf) != 16 || sizeof(struct shelf_resynced) != 112)
+        return 15;
     return 0;
 }
 
@@ -89,8 +110,8 @@ static int is(struct shelf_record shelf, size_t mode, size_t next, size_t listed
            shelf.next == next && shelf.listed == listed;
 }
 
-/* Makes a call on that shelf. */
-static struct shelf_answer on(shelf_call call, struct shelf_record shelf)
+/* Makes a call on that shelf that only looks at the buffers. */
+static struct shelf_answer on(look_call call, struct shelf_record shelf)
 {
     return call(shelf, array, sizeof array, log_bytes, sizeof log_bytes, list, sizeof list);
 }
@@ -99,6 +120,48 @@ static struct shelf_answer on(shelf_call call, struct shelf_record shelf)
 static struct shelf_answer member_of(fail_call call, struct shelf_record shelf, size_t member)
 {
     return call(shelf, member, array, sizeof array, log_bytes, sizeof log_bytes, list, sizeof list);
+}
+
+/* Formats that shelf. */
+static struct shelf_answer format(struct shelf_record shelf)
+{
+    const format_call call = shelf_format;
+
+    return call(shelf, array, sizeof array, log_bytes, sizeof log_bytes, list, sizeof list);
+}
+
+/* Writes blocks of that shelf. */
+static struct shelf_answer write_blocks(struct shelf_record shelf, size_t address, size_t count, const uint8_t *data,
+                                        size_t data_len)
+{
+    const write_call call = shelf_write;
+
+    return call(shelf, address, count, data, data_len, array, sizeof array, log_bytes, sizeof log_bytes, list,
+                sizeof list);
+}
+
+/* Reads blocks of that shelf. */
+static struct shelf_answer read_blocks(struct shelf_record shelf, size_t address, size_t count, uint8_t *data,
+                                       size_t data_len)
+{
+    const read_call call = shelf_read;
+
+    return call(shelf, address, count, data, data_len, array, sizeof array, log_bytes, sizeof log_bytes, list,
+                sizeof list);
+}
+
+/* Resyncs that shelf. */
+static struct shelf_resynced resync(struct shelf_record shelf)
+{
+    const resync_call call = shelf_resync;
+
+    return call(shelf, array, sizeof array, log_bytes, sizeof log_bytes, list, sizeof list);
+}
+
+/* Rebuilds or fully resyncs that shelf. */
+static struct shelf_answer mended(mend_call call, struct shelf_record shelf)
+{
+    return call(shelf, array, sizeof array, log_bytes, sizeof log_bytes, list, sizeof list);
 }
 
 /* Puts a word into the list. */
@@ -150,7 +213,7 @@ static int shelf_calls(void)
         return 22;
     if (!all(array, sizeof array, 77) || !all(log_bytes, sizeof log_bytes, 77) || !all(list, sizeof list, 77))
         return 23;
-    answer = on(shelf_format, shelf);
+    answer = format(shelf);
     if (answer.code != SHELF_OK || !is(answer.shelf, SHELF_NORMAL, 0, 0, 0))
         return 24;
     if (!all(array, sizeof array, 0) || !all(log_bytes, sizeof log_bytes, 0) || !all(list, sizeof list, 255))
@@ -175,6 +238,96 @@ static int shelf_calls(void)
     return shelf_listed(answer.shelf);
 }
 
+/* Whether the block of a member in a stripe is five times this byte. */
+static int block_is(size_t member, size_t stripe, uint8_t byte)
+{
+    return all(array + (member * 2 + stripe) * 5, 5, byte);
+}
+
+/* On a started shelf: block 1 is logged as 7, disks 0 and 1 fail and are overwritten, read and rebuilt; then the log
+ * and disk 0 fail, and block 0 is withheld. */
+static int blocks_logged(struct shelf_record shelf)
+{
+    const uint8_t sevens[5] = {7, 7, 7, 7, 7};
+    uint8_t two[10] = {9, 9, 9, 9, 9, 9, 9, 9, 9, 9};
+    struct shelf_answer answer = write_blocks(shelf, 1, 1, sevens, sizeof sevens);
+
+    if (answer.code != SHELF_OK || !is(answer.shelf, SHELF_ACCELERATING, 2, 1, 0) || !block_is(1, 0, 7))
+        return 41;
+    if (!all(log_bytes, 5, 0) || !all(log_bytes + 5, 5, 7) || !block_is(3, 0, 0) || !block_is(4, 0, 0))
+        return 42;
+    shelf = answer.shelf;
+    answer = member_of(shelf_fail, member_of(shelf_fail, shelf, 0).shelf, 1);
+    memset(array, 55, 20);
+    if (read_blocks(answer.shelf, 0, 2, two, sizeof two).code != SHELF_OK || !all(two, 5, 0) || !all(two + 5, 5, 7))
+        return 43;
+    if (write_blocks(answer.shelf, 1, 1, sevens, sizeof sevens).code != SHELF_ARRAY_FAILED)
+        return 44;
+    answer = mended(shelf_rebuild, answer.shelf);
+    if (answer.code != SHELF_OK || !is(answer.shelf, SHELF_ACCELERATING, 2, 1, 0) || !all(array, 10, 0) ||
+        !block_is(1, 0, 7) || !block_is(1, 1, 0))
+        return 45;
+    answer = member_of(shelf_fail, member_of(shelf_fail, shelf, 5).shelf, 0);
+    memset(two, 9, sizeof two);
+    if (read_blocks(answer.shelf, 0, 1, two, 5).code != SHELF_WITHHELD || !all(two, sizeof two, 9))
+        return 46;
+    if (mended(shelf_rebuild, answer.shelf).code != SHELF_WITHHELD)
+        return 47;
+    return 0;
+}
+
+/* On a shelf with block 1 logged: the numbers of requests, a resync that finds a stripe and ones that are refused, and
+ * full resync. */
+static int blocks_resynced(struct shelf_record shelf)
+{
+    const uint8_t two[10] = {1, 1, 1, 1, 1, 2, 2, 2, 2, 2};
+    struct shelf_resynced resynced = resync(shelf);
+    struct shelf_answer answer;
+
+    if (resynced.code != SHELF_OK || resynced.stripe != 0 || !is(resynced.shelf, SHELF_NORMAL, 0, 0, 0))
+        return 51;
+    if (!block_is(3, 0, 7) || !block_is(4, 0, 14) || !all(list, 8, 255))
+        return 52;
+    resynced = resync(resynced.shelf);
+    if (resynced.code != SHELF_WRONG_MODE || resynced.stripe != 2 || !is(resynced.shelf, SHELF_NORMAL, 0, 0, 0))
+        return 53;
+    if (write_blocks(resynced.shelf, 6, 1, two, 5).code != SHELF_BAD_ADDRESS ||
+        write_blocks(resynced.shelf, SIZE_MAX, 2, two, 10).code != SHELF_BAD_ADDRESS ||
+        write_blocks(resynced.shelf, 5, 1, two, 10).code != SHELF_BAD_DATA)
+        return 54;
+    answer = write_blocks(resynced.shelf, 2, 2, two, sizeof two);
+    if (answer.code != SHELF_OK || !is(answer.shelf, SHELF_NORMAL, 0, 0, 0) || !block_is(2, 0, 1) || !block_is(0, 1, 2))
+        return 55;
+    if (!block_is(3, 0, 6) || !block_is(3, 1, 2) || !block_is(4, 0, 10) || !block_is(4, 1, 2))
+        return 56;
+    memset(array + 30, 66, 20);
+    answer = mended(shelf_full_resync, answer.shelf);
+    if (answer.code != SHELF_OK || !block_is(3, 0, 6) || !block_is(3, 1, 2) || !block_is(4, 0, 10) ||
+        !block_is(4, 1, 2))
+        return 57;
+    if (mended(shelf_rebuild, answer.shelf).code != SHELF_NOT_FAILED)
+        return 58;
+    resynced = resync(on(shelf_start, answer.shelf).shelf);
+    if (resynced.code != SHELF_OK || resynced.stripe != 2 || !is(resynced.shelf, SHELF_NORMAL, 0, 0, 0))
+        return 59;
+    return 0;
+}
+
+/* Formats and starts a shelf, and goes through the calls that serve blocks and bring parity up to date. */
+static int shelf_blocks(void)
+{
+    const struct shelf_record fresh = {{3, 2, 5, 4, 2, 4}, 0, 0, 0, {false}};
+    const struct shelf_record started = on(shelf_start, format(fresh).shelf).shelf;
+    struct shelf_record logged = started;
+    int fault = blocks_logged(started);
+
+    if (fault != 0)
+        return fault;
+    logged.next = 2;
+    logged.listed = 1;
+    return blocks_resynced(logged);
+}
+
 /* Goes through both headers. */
 int main(void)
 {
@@ -184,5 +337,7 @@ int main(void)
         fault = shelf_layout();
     if (fault == 0)
         fault = shelf_calls();
+    if (fault == 0)
+        fault = shelf_blocks();
     return fault;
 }

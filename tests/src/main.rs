@@ -1,6 +1,6 @@
 //! The tests of the library. Each group calls the archives and compares what they answer and store with
 //! published values, or with arithmetic that shares nothing with the library. A line is printed for each group; the
-//! program stops at the first failure, with status 1.
+//! program stops at the first failure, with status 1. Arguments name the groups that are to run; all do without any.
 
 mod arrays;
 mod calls;
@@ -15,6 +15,7 @@ mod refusals;
 mod shelf;
 mod stripes;
 
+use std::env;
 use std::process::ExitCode;
 
 /// What a group hands back: what it covered, or what went wrong.
@@ -24,7 +25,7 @@ pub type Outcome = Result<String, String>;
 type Group = fn(u64) -> Outcome;
 
 /// The groups in the order in which they run.
-const GROUPS: [(&str, Group); 11] = [
+const GROUPS: [(&str, Group); 15] = [
     ("field", field::group),
     ("products", products::group),
     ("examples", examples::group),
@@ -32,16 +33,24 @@ const GROUPS: [(&str, Group); 11] = [
     ("recovery", recovery::group),
     ("refusals", refusals::group),
     ("arrays", arrays::group),
+    ("printed session", shelf::printed::group),
+    ("marked examples", shelf::marked::group),
     ("sessions", shelf::sessions::group),
     ("tiny shelves", shelf::tiny::group),
     ("random shelves", shelf::random::group),
+    ("walks", shelf::walks::group),
+    ("sequences", shelf::sequences::group),
     ("limits", shelf::limits::group),
 ];
 
-/// Runs the groups one after another, up to the first that fails.
+/// Runs the groups that are named, or all, one after another, up to the first that fails.
 fn run() -> Result<(), String> {
     let seed = random::seed()?;
-    for (name, group) in GROUPS {
+    let named: Vec<String> = env::args().skip(1).collect();
+    if let Some(unknown) = named.iter().find(|name| !GROUPS.iter().any(|(known, _)| known == name)) {
+        return Err(format!("there is no group {unknown}"));
+    }
+    for (name, group) in GROUPS.iter().filter(|(name, _)| named.is_empty() || named.iter().any(|other| other == name)) {
         match group(seed) {
             Ok(covered) => println!("{name}: {covered}"),
             Err(fault) => return Err(format!("{name}: FAILED: {fault}; seed {seed}")),

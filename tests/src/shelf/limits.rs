@@ -1,20 +1,23 @@
-//! Shelves at the limits of their measures: lists of 4,096 places, lengths past 2^32, and format of large buffers.
+//! Shelves at the limits of their measures: lists of 4,096 places, logs of 65,536 records, lengths past 2^32.
 
-use super::calls::{Buffer, Call, Measures, Record, Shelf, Stand};
-use super::lists;
+use super::calls::{Buffer, Call, Measures, Record, Shelf};
+use super::lists::{self, pick};
 use super::model::{lengths, OF_LIST};
+use super::stand::Stand;
 use crate::random::Random;
 use crate::Outcome;
 
 /// Measures of shelves whose buffers are lent whole: the greatest and the least of each.
-const WHOLE: [[usize; 6]; 7] = [
+const WHOLE: [[usize; 6]; 9] = [
     [16, 65536, 1, 65536, 256, 4096],
     [2, 65536, 1, 65536, 1, 4096],
     [16, 256, 64, 1, 256, 4096],
     [16, 3, 4096, 16, 255, 48],
+    [5, 2, 4096, 60, 4, 10],
     [2, 1, 4096, 1, 256, 1],
     [3, 1, 1, 1, 1, 1],
     [2, 1, 1, 65536, 1, 4096],
+    [16, 256, 1, 65536, 60, 4096],
 ];
 
 /// Measures of shelves that only calls get which look at no byte of array and log; of these one byte is lent.
@@ -25,14 +28,28 @@ const TOLD: [[usize; 6]; 4] = [
     [16, 65535, 4095, 65536, 256, 1],
 ];
 
-/// A shelf with as many blocks listed as can be, in mode 2; or with none, in mode 0.
-fn shelf(measures: [usize; 6], full: bool, random: &mut Random) -> Shelf {
+/// How much of a shelf is used: nothing in mode 0; all that can be in mode 2; in mode 1 all but room for a few blocks.
+#[derive(Clone, Copy, PartialEq)]
+enum Used {
+    Nothing,
+    All,
+    Most,
+}
+
+/// A shelf of which so much is used.
+fn shelf(measures: [usize; 6], used: Used, random: &mut Random) -> Shelf {
     let [d, s, b, l, h, e] = measures;
-    let (listed, next, mode) = if full { (e.min(d * s), l, 2) } else { (0, 0, 0) };
+    let most = e.min(d * s);
+    let (listed, next, mode) = match used {
+        Used::Nothing => (0, 0, 0),
+        Used::All => (most, l, 2),
+        Used::Most => (most.saturating_sub(5).max(1), l.saturating_sub(9).max(1), 1),
+    };
     let record = Record { measures: Measures { d, s, b, l, h, e }, mode, next, listed, failed: [0; 19] };
     let lent = |length: u128| Buffer { bytes: filled(length), told: length as usize };
     let [array, log, _] = lengths(record.measures).map(lent);
-    Shelf { record, array, log, list: Buffer::of(lists::valid(&record, random).bytes()) }
+    let list = Buffer::of(lists::valid(&record, random).bytes());
+    Shelf { record, array, log, list, data: Buffer::empty() }
 }
 
 /// So many bytes that count up, none of them 0; one byte where they would be more than 2^25.
@@ -64,21 +81,126 @@ fn tried(shelf: &Shelf, stand: &mut Stand, random: &mut Random) -> Result<(), St
     Ok(())
 }
 
+/// The shelf with other members failed.
+fn with_failed(shelf: &Shelf, members: &[usize]) -> Shelf {
+    let mut after = shelf.clone();
+    after.record.failed = [0; 19];
+    members.iter().for_each(|&member| after.record.failed[member] = 1);
+    after
+}
+
+/// Makes a write or a read of so many blocks as the model does it.
+fn request(call: Call, count: usize, shelf: &mut Shelf, stand: &mut Stand) -> Result<(), String> {
+    shelf.data = Buffer::of(filled((count * shelf.record.measures.b) as u128));
+    stand.as_model(call, shelf).map(|_| ())
+}
+
+/// The blocks that are written and read: the first, the last, and some stripes at each end.
+fn ranges(m: Measures) -> [(usize, usize); 4] {
+    let (all, some) = (m.d * m.s, (3 * m.d + 1).min(m.d * m.s));
+    [(0, 1), (all - some, some), (all - 1, 1), (0, some)]
+}
+
+/// The sets of failed members with which blocks are served.
+fn failed_sets(m: Measures) -> [Vec<usize>; 6] {
+    let (last, p, q, log) = (m.d - 1, m.d, m.d + 1, m.d + 2);
+    [vec![], vec![0, log], vec![0, last], vec![last, p], vec![0, q], vec![p, log]]
+}
+
+/// Whether one chain may hold all places of the longest list: each call then takes its time, and few are made.
+fn is_slow(m: Measures) -> bool {
+    m.h == 1 && m.s == 65536
+}
+
+/// Fails unless the calls that serve blocks and bring parity up to date do as the model does on a shelf lent whole.
+fn served(shelf: &Shelf, stand: &mut Stand) -> Result<(), String> {
+    let m = shelf.record.measures;
+    let (sets, requests) = if is_slow(m) { (2, 2) } else { (6, 4) };
+    for members in failed_sets(m).into_iter().take(sets) {
+        if shelf.record.mode == 1 && members.contains(&(m.d + 2)) {
+            continue;
+        }
+        let mut shelf = with_failed(shelf, &members);
+        for (address, count) in ranges(m).into_iter().take(requests) {
+            request(Call::Read { address, count }, count, &mut shelf, stand)?;
+            request(Call::Write { address, count }, count, &mut shelf, stand)?;
+        }
+        stand.as_model(Call::Resync, &shelf)?;
+        stand.as_model(Call::FullResync, &shelf)?;
+        if !is_slow(m) {
+            stand.as_model(Call::Rebuild, &shelf)?;
+        }
+    }
+    Ok(())
+}
+
+/// Makes writes at the end of the log, one after another, then resyncs, as the model does them.
+fn worn_out(mut shelf: Shelf, stand: &mut Stand, random: &mut Random) -> Result<(), String> {
+    let m = shelf.record.measures;
+    for turn in 0..if is_slow(m) { 4 } else { 24 } {
+        let (address, count) = if turn % 2 == 0 { (pick(m.d * m.s, random), 1) } else { ranges(m)[turn / 2 % 4] };
+        request(Call::Write { address, count }, count, &mut shelf, stand)?;
+        stand.hand_on(&mut shelf);
+    }
+    for _ in 0..3 {
+        stand.as_model(Call::Resync, &shelf)?;
+        stand.hand_on(&mut shelf);
+    }
+    Ok(())
+}
+
+/// Fails unless calls on a shelf of which one byte is lent are refused unseen, as the model does: for an address past
+/// the end, data of which 32 bits tell the right length, a failed member, a stripe that waits, or nothing to do.
+fn refused(shelf: &Shelf, stand: &mut Stand) -> Result<(), String> {
+    let m = shelf.record.measures;
+    let (all, log) = (m.d * m.s, m.d + 2);
+    let mut shelf = with_failed(shelf, &[0, log]);
+    shelf.data = Buffer { bytes: vec![1], told: all * m.b };
+    for (address, count) in [(0, all), (1, all), (all, all), (usize::MAX - all + 2, all)] {
+        stand.as_model(Call::Write { address, count }, &shelf)?;
+        if shelf.record.listed > 0 || address > 0 {
+            stand.as_model(Call::Read { address, count }, &shelf)?;
+        }
+    }
+    for call in [Call::Resync, Call::FullResync] {
+        stand.as_model(call, &shelf)?;
+    }
+    if shelf.record.listed > 0 {
+        stand.as_model(Call::Rebuild, &shelf)?;
+    }
+    let mut sound = with_failed(&shelf, &[]);
+    stand.as_model(Call::Rebuild, &sound)?;
+    for told in [all * m.b + 1, (all * m.b) as u32 as usize, all * m.b + (1 << 32), all * m.b + (1 << 63)] {
+        sound.data.told = told;
+        if told != all * m.b {
+            stand.as_model(Call::Write { address: 0, count: all }, &sound)?;
+            stand.as_model(Call::Read { address: 0, count: all }, &sound)?;
+        }
+    }
+    Ok(())
+}
+
 /// Tries the shelves at the limits.
 pub fn group(seed: u64) -> Outcome {
     let random = &mut Random::new(seed, 7);
     let mut stand = Stand::default();
     for measures in WHOLE {
-        for full in [false, true] {
-            let shelf = shelf(measures, full, random);
-            tried(&shelf, &mut stand, random)?;
-            stand.as_model(Call::Format, &shelf)?;
+        for used in [Used::Nothing, Used::All, Used::Most] {
+            let shelf = shelf(measures, used, random);
+            if used != Used::Most {
+                tried(&shelf, &mut stand, random)?;
+                stand.as_model(Call::Format, &shelf)?;
+            }
+            served(&shelf, &mut stand)?;
+            worn_out(shelf, &mut stand, random)?;
         }
     }
     for measures in TOLD {
-        for full in [false, true] {
-            tried(&shelf(measures, full, random), &mut stand, random)?;
+        for used in [Used::Nothing, Used::All] {
+            let shelf = shelf(measures, used, random);
+            tried(&shelf, &mut stand, random)?;
+            refused(&shelf, &mut stand)?;
         }
     }
-    Ok(format!("{} calls on {} shelves at the limits; seed {seed}", stand.calls, 2 * (WHOLE.len() + TOLD.len())))
+    Ok(format!("{} calls on {} shelves at the limits; seed {seed}", stand.calls, 3 * WHOLE.len() + 2 * TOLD.len()))
 }

@@ -1,6 +1,7 @@
 //! Random lists: valid ones in any arrangement, and ones damaged in a named way.
 
 use super::calls::{Measures, Record};
+use super::due::Entries;
 use super::model::{Fault, NONE};
 use crate::random::Random;
 
@@ -48,6 +49,20 @@ pub struct List {
 }
 
 impl List {
+    /// A list of these measures from its bytes.
+    pub fn of(m: Measures, bytes: &[u8]) -> List {
+        let words: Vec<u32> =
+            bytes.chunks_exact(4).map(|word| u32::from_le_bytes([word[0], word[1], word[2], word[3]])).collect();
+        let places = words[m.h..].chunks_exact(4).map(|place| [place[0], place[1], place[2], place[3]]).collect();
+        List { heads: words[..m.h].to_vec(), places }
+    }
+
+    /// What a valid list says: Ori and Cur of each listed address.
+    pub fn entries(&self) -> Entries {
+        let listed = self.chains().into_iter().flatten();
+        listed.map(|place| (self.places[place][0] as usize, [self.places[place][1], self.places[place][2]])).collect()
+    }
+
     /// The list in bytes.
     pub fn bytes(&self) -> Vec<u8> {
         self.heads.iter().chain(self.places.iter().flatten()).flat_map(|word| word.to_le_bytes()).collect()
@@ -113,24 +128,32 @@ fn junk(random: &mut Random) -> [u32; 4] {
     })
 }
 
-/// A valid list for a record whose counts are possible: its blocks on shuffled places, each chain in any order, junk
-/// elsewhere.
+/// A valid list for a record whose counts are possible, in a random arrangement.
 pub fn valid(r: &Record, random: &mut Random) -> List {
     let m = r.measures;
-    let mut list = List { heads: vec![NONE; m.h], places: (0..m.e).map(|_| junk(random)).collect() };
     let blocks = addresses(m, r.listed, random);
     let mut in_stripe = vec![0; m.s];
     blocks.iter().for_each(|block| in_stripe[block / m.d] += 1);
+    let mut entries = Entries::new();
+    for block in blocks {
+        let [ori, cur] = [(); 2].map(|_| random.below(r.next as u64) as u32);
+        let entry = match random.below(3) {
+            0 if in_stripe[block / m.d] == m.d => [NONE, cur],
+            1 => [ori, NONE],
+            _ => [ori, cur],
+        };
+        entries.insert(block, entry);
+    }
+    arranged(m, &entries, random)
+}
+
+/// A list that says this: its blocks on shuffled places, each chain in any order, junk elsewhere.
+pub fn arranged(m: Measures, entries: &Entries, random: &mut Random) -> List {
+    let mut list = List { heads: vec![NONE; m.h], places: (0..m.e).map(|_| junk(random)).collect() };
     let mut free: Vec<usize> = (0..m.e).collect();
     shuffle(&mut free, random);
     let mut chains = vec![Vec::new(); m.h];
-    for (&block, &place) in blocks.iter().zip(&free) {
-        let [ori, cur] = [(); 2].map(|_| random.below(r.next as u64) as u32);
-        let (ori, cur) = match random.below(3) {
-            0 if in_stripe[block / m.d] == m.d => (NONE, cur),
-            1 => (ori, NONE),
-            _ => (ori, cur),
-        };
+    for ((&block, &[ori, cur]), &place) in entries.iter().zip(&free) {
         list.places[place] = [block as u32, ori, cur, NONE];
         chains[block % m.h].push(place);
     }

@@ -1,7 +1,8 @@
-//! What the calls on a shelf are to answer and to hand back, written anew from the table of numbers: every row that
-//! applies is found, and every fault for which a row applies.
+//! What the calls on a shelf are to answer, written anew from the table of numbers: every row that applies is found,
+//! and every fault for which one of the rows 1 to 3 applies.
 
 use super::calls::{Call, Measures, Record, Shelf};
+use super::conditions::conditions;
 
 /// The word of the list that means none.
 pub const NONE: u32 = 0xffff_ffff;
@@ -100,13 +101,20 @@ impl Faults {
     }
 
     /// Whether there is none.
-    fn none(self) -> bool {
+    pub fn none(self) -> bool {
         self.0 == 0
     }
 
     /// Whether this one is there.
     pub fn has(self, fault: Fault) -> bool {
         self.0 >> fault as u32 & 1 == 1
+    }
+
+    /// The names of those that are there.
+    pub fn names(self) -> String {
+        let all = OF_MEASURES.iter().chain(&OF_RECORD).chain(&OF_LENGTHS).chain(&OF_LIST);
+        let names: Vec<String> = all.filter(|&&fault| self.has(fault)).map(|fault| format!("{fault:?}")).collect();
+        names.join(", ")
     }
 
     /// Whether this one is there and no other.
@@ -147,7 +155,7 @@ fn measure_faults(m: Measures) -> Faults {
 }
 
 /// Whether a member's flag is set; no flag is past the last one.
-fn failed(record: &Record, member: usize) -> bool {
+pub fn failed(record: &Record, member: usize) -> bool {
     record.failed.get(member).is_some_and(|&flag| flag != 0)
 }
 
@@ -182,15 +190,15 @@ fn length_faults(shelf: &Shelf) -> Faults {
 }
 
 /// What a walk over the chains of a list gathers: which chain each place is in, and the addresses below d times S.
-struct Walk {
-    faults: Faults,
+pub struct Walk {
+    pub faults: Faults,
+    pub is_listed: Vec<bool>,
     chain_of: Vec<Option<usize>>,
-    is_listed: Vec<bool>,
     lack_ori: Vec<usize>,
 }
 
-/// The faults of a list of the right length, with measures in their ranges.
-fn list_faults(r: &Record, list: &[u8]) -> Faults {
+/// Walks a list of the right length, with measures in their ranges.
+pub fn list_walk(r: &Record, list: &[u8]) -> Walk {
     let Measures { d, s, h, e, .. } = r.measures;
     let word = |at: usize| u32::from_le_bytes([list[4 * at], list[4 * at + 1], list[4 * at + 2], list[4 * at + 3]]);
     let mut walk = Walk {
@@ -211,8 +219,9 @@ fn list_faults(r: &Record, list: &[u8]) -> Faults {
     walk.faults.add(FewerThanListed, listed < r.listed);
     walk.faults.add(MoreThanListed, listed > r.listed);
     let whole = |address: usize| walk.is_listed[address / d * d..][..d].iter().all(|&listed| listed);
-    walk.faults.add(StripeNotWhole, !walk.lack_ori.iter().all(|&address| whole(address)));
-    walk.faults
+    let all_whole = walk.lack_ori.iter().all(|&address| whole(address));
+    walk.faults.add(StripeNotWhole, !all_whole);
+    walk
 }
 
 /// Comes to a place from a slot's chain; whether the chain can be followed further.
@@ -249,58 +258,22 @@ fn entry_faults(r: &Record, slot: usize, [address, ori, cur]: [u32; 3], walk: &m
     }
 }
 
-/// The numbers of the rows after the third that apply to a call.
-fn conditions(call: Call, r: &Record) -> u32 {
-    let log = r.measures.d.saturating_add(2);
-    let is = |number: u32, applies: bool| u32::from(applies) << number;
-    match call {
-        Call::Format => 0,
-        Call::Start => {
-            let array = (0..19).any(|member| member < log && failed(r, member));
-            is(7, r.mode != 0) | is(8, array) | is(9, failed(r, log))
-        }
-        Call::Fail(member) => {
-            let flags = r.failed.iter().filter(|&&flag| flag != 0).count();
-            is(6, member > log) | is(10, failed(r, member)) | is(11, flags >= 2)
-        }
-        Call::NewLog => is(12, !failed(r, log)) | is(13, r.listed > 0),
-    }
-}
-
-/// Finds all that applies to a call. Row 3 is looked for only where there is a list of the right length.
+/// Finds all that applies to a call. Row 3 is looked for only where there is a list of the right length; a stripe waits
+/// if a walk over that list, be it sound or not, comes to a block of it.
 pub fn findings(call: Call, shelf: &Shelf) -> Findings {
     let measures = measure_faults(shelf.record.measures);
     let mut faults = [measures, length_faults(shelf), Faults::default()];
+    let mut is_listed = Vec::new();
     if call != Call::Format {
         record_faults(&shelf.record, &mut faults[0]);
-        if measures.none() && !faults[1].has(ListLength) {
-            faults[2] = list_faults(&shelf.record, &shelf.list.bytes);
+        if call != Call::FullResync && measures.none() && !faults[1].has(ListLength) {
+            let walk = list_walk(&shelf.record, &shelf.list.bytes);
+            (faults[2], is_listed) = (walk.faults, walk.is_listed);
         }
     }
-    let mut numbers = conditions(call, &shelf.record);
+    let mut numbers = conditions(call, shelf, &is_listed);
     for (row, found) in faults.iter().enumerate() {
         numbers |= u32::from(!found.none()) << (row + 1);
     }
     Findings { faults, numbers }
-}
-
-/// The record that a call hands back when it answers the number.
-pub fn record_after(call: Call, given: Record, code: usize) -> Record {
-    let mut after = given;
-    if code != 0 {
-        return after;
-    }
-    let log = given.measures.d + 2;
-    match call {
-        Call::Format => (after.mode, after.next, after.listed, after.failed) = (0, 0, 0, [0; 19]),
-        Call::Start => after.mode = 1,
-        Call::Fail(member) => {
-            after.failed[member] = 1;
-            if member == log && given.mode == 1 {
-                after.mode = if given.listed > 0 { 2 } else { 0 };
-            }
-        }
-        Call::NewLog => after.failed[log] = 0,
-    }
-    after
 }

@@ -1,14 +1,16 @@
 //! Random shelves against the model: sound ones, ones damaged in one or two ways, and nonsense.
 
-use super::calls::{Buffer, Call, Record, Shelf, Stand};
+use super::calls::{Buffer, Call, Measures, Record, Shelf};
 use super::lists::{self, pick, List};
 use super::model::{self, Fault, OF_LENGTHS, OF_LIST, OF_MEASURES, OF_RECORD, RANGES};
 use super::records;
+use super::requests;
+use super::stand::Stand;
 use super::tally::Tally;
 use crate::random::Random;
 use crate::Outcome;
 
-/// How many shelves are tried; each is lent to all four calls.
+/// How many shelves are tried; each is lent to all nine calls.
 const SHELVES: usize = 60_000;
 
 /// The most bytes that a buffer has which is lent whole: a little more than the longest list.
@@ -133,6 +135,7 @@ fn shelf(plan: Plan, random: &mut Random) -> Shelf {
         array: Buffer { bytes: random.bytes(lent(array)), told: array },
         log: Buffer { bytes: random.bytes(lent(log)), told: log },
         list: Buffer { bytes, told: list },
+        data: Buffer::empty(),
     }
 }
 
@@ -147,19 +150,42 @@ fn some_member(d: usize, random: &mut Random) -> usize {
     }
 }
 
-/// Lends a shelf to all four calls, then to some one after another, the record being handed on. Format is the last of
-/// the four: if it took what it must refuse, the others would most likely have told so before it stores anything.
+/// The nine calls in the order in which a shelf is lent to them. Those that store come last: if one of them took what
+/// it must refuse, the others would most likely have told so before it stores anything.
+fn nine_calls(m: Measures, random: &mut Random) -> [(Call, Buffer); 9] {
+    let [(read, room), (write, data)] = [false, true].map(|writes| some_request(writes, m, random));
+    let plain = |call: Call| (call, Buffer::empty());
+    [
+        plain(Call::Start),
+        plain(Call::Fail(some_member(m.d, random))),
+        plain(Call::NewLog),
+        (read, room),
+        (write, data),
+        plain(Call::Resync),
+        plain(Call::Rebuild),
+        plain(Call::FullResync),
+        plain(Call::Format),
+    ]
+}
+
+/// A write or a read, with the caller's data.
+fn some_request(writes: bool, m: Measures, random: &mut Random) -> (Call, Buffer) {
+    let request = requests::some(m, 6, random);
+    (request.call(writes), request.data(m, random))
+}
+
+/// Lends a shelf to all nine calls, then to some one after another, all but the data being handed on.
 fn tried(shelf: &mut Shelf, stand: &mut Stand, tally: &mut Tally, random: &mut Random) -> Result<(), String> {
-    let member = some_member(shelf.record.measures.d, random);
-    for call in [Call::Start, Call::Fail(member), Call::NewLog, Call::Format] {
+    for (call, data) in nine_calls(shelf.record.measures, random) {
+        shelf.data = data;
         tally.count(call, &stand.as_model(call, shelf)?);
     }
     for _ in 0..4 {
-        let call =
-            [Call::Fail(some_member(shelf.record.measures.d, random)), Call::NewLog, Call::Start][pick(3, random)];
-        let found = stand.as_model(call, shelf)?;
-        tally.count(call, &found);
-        shelf.record = model::record_after(call, shelf.record, found.code());
+        let mut calls = nine_calls(shelf.record.measures, random);
+        let (call, data) = &mut calls[pick(8, random)];
+        std::mem::swap(&mut shelf.data, data);
+        tally.count(*call, &stand.as_model(*call, shelf)?);
+        stand.hand_on(shelf);
     }
     Ok(())
 }
@@ -190,6 +216,7 @@ pub fn group(seed: u64) -> Outcome {
         tried(&mut shelf, &mut stand, &mut tally, random)?;
     }
     let least = tally.complete()?;
+    stand.seen.complete(1)?;
     Ok(format!(
         "{} calls on {SHELVES} shelves, sound, damaged and nonsense; each call with each fault of rows 1 to 3 alone, \
          {least} times at least; seed {seed}",

@@ -1,8 +1,10 @@
-//! Sessions of the four calls with the lines that are due: those of the customer's session that they cover, and others
-//! worked out by hand. The model is not asked.
+//! Sessions of format, start, fail and new log with the lines that are due: those of the customer's session that they
+//! cover, and others worked out by hand. The model is not asked.
 
-use super::calls::{Buffer, Call, Measures, Record, Shelf, Stand};
+use super::calls::{Buffer, Call, Measures, Record, Shelf};
+use super::due::{Due, ListDue};
 use super::model::NONE;
+use super::stand::Stand;
 use crate::model::made_all;
 use crate::Outcome;
 
@@ -72,7 +74,8 @@ fn list(heads: [u32; 2], entry: [u32; 4]) -> Vec<u8> {
 fn shelf(mode: usize, next: usize, listed: usize, data: [u8; 6], log: [u8; 4], list: Vec<u8>) -> Shelf {
     let record = Record { measures: MEASURES, mode, next, listed, failed: [0; 19] };
     let array = made_all(3, 2, 1, &[&data[..], &[0; 4]].concat());
-    Shelf { record, array: Buffer::of(array), log: Buffer::of(log.to_vec()), list: Buffer::of(list) }
+    let [array, log, list, data] = [array, log.to_vec(), list, Vec::new()].map(Buffer::of);
+    Shelf { record, array, log, list, data }
 }
 
 /// Replays the steps one after another, the record and the buffers being handed on.
@@ -86,8 +89,11 @@ fn replayed(mut shelf: Shelf, steps: &[Step], stand: &mut Stand) -> Result<(), S
         if call == Call::Format {
             (after.array.bytes, after.log.bytes, after.list.bytes) = (vec![0; 10], vec![0; 4], vec![255; 72]);
         }
-        let buffers = [&after.array.bytes[..], &after.log.bytes, &after.list.bytes];
-        stand.expect(call, &shelf, fields[0], after.record, buffers).map_err(|fault| format!("{line}: {fault}"))?;
+        let mut due = Due::nothing(call, &shelf, fields[0]);
+        due.record = after.record;
+        (due.array, due.log) = (Some(after.array.bytes.clone()), Some(after.log.bytes.clone()));
+        due.list = ListDue::Bytes(after.list.bytes.clone());
+        stand.expect(call, &shelf, &due).map_err(|fault| format!("{line}: {fault}"))?;
         shelf = after;
     }
     Ok(())
@@ -121,8 +127,7 @@ fn edges(stand: &mut Stand) -> Result<(), String> {
         let mut heads = [NONE; 2];
         heads[slot] = place;
         let shelf = shelf(1, 2, 1, [0; 6], [0; 4], list(heads, [address, ori, cur, NONE]));
-        let buffers = [&shelf.array.bytes[..], &shelf.log.bytes, &shelf.list.bytes];
-        stand.expect(Call::Start, &shelf, code, shelf.record, buffers)?;
+        stand.expect(Call::Start, &shelf, &Due::nothing(Call::Start, &shelf, code))?;
     }
     Ok(())
 }

@@ -4,24 +4,39 @@ use super::calls::Call;
 use super::model::{Fault, Findings, OF_LENGTHS, OF_LIST, OF_MEASURES, OF_RECORD};
 
 /// The calls by name, with the numbers that each can answer beside 0.
-const NUMBERS: [(&str, &[usize]); 4] = [
+const NUMBERS: [(&str, &[usize]); 9] = [
     ("format", &[1, 2]),
     ("start", &[1, 2, 3, 7, 8, 9]),
     ("fail", &[1, 2, 3, 6, 10, 11]),
     ("new log", &[1, 2, 3, 12, 13]),
+    ("write", &[1, 2, 3, 4, 5, 8]),
+    ("read", &[1, 2, 3, 4, 5, 14]),
+    ("resync", &[1, 2, 3, 7, 8]),
+    ("rebuild", &[1, 2, 3, 12, 14]),
+    ("full resync", &[1, 2, 8]),
 ];
 
-/// The one pair of numbers that never apply together: a member above d + 2 has no flag.
-const APART: (&str, usize, usize) = ("fail", 6, 10);
+/// The pairs of numbers that never apply together: a member above d + 2 has no flag; a block is withheld only where a
+/// disk has failed.
+const APART: [(&str, usize, usize); 2] = [("fail", 6, 10), ("rebuild", 12, 14)];
 
-/// The faults of rows 1 to 3; format has those of the measures and the lengths only.
-const FAULTS: [(usize, &[Fault], bool); 4] =
-    [(1, &OF_MEASURES, true), (1, &OF_RECORD, false), (2, &OF_LENGTHS, true), (3, &OF_LIST, false)];
+/// The faults of rows 1 to 3 by what they are of.
+const FAULTS: [(usize, &[Fault]); 4] = [(1, &OF_MEASURES), (1, &OF_RECORD), (2, &OF_LENGTHS), (3, &OF_LIST)];
+
+/// Whether a call looks for these faults: format does for those of measures and lengths only, full resync for all but
+/// those of the list.
+fn looks_for(name: &str, faults: &[Fault]) -> bool {
+    match name {
+        "format" => faults == OF_MEASURES || faults == OF_LENGTHS,
+        "full resync" => faults != OF_LIST,
+        _ => true,
+    }
+}
 
 /// Counts for each call: by the number answered and another that applied too (itself where none did), and by fault.
 pub struct Tally {
-    numbers: [[[usize; 14]; 14]; 4],
-    alone: [[usize; 40]; 4],
+    numbers: [[[usize; 15]; 15]; 9],
+    alone: [[usize; 40]; 9],
 }
 
 /// The index of a call in the counts.
@@ -31,13 +46,18 @@ fn index(call: Call) -> usize {
         Call::Start => 1,
         Call::Fail(_) => 2,
         Call::NewLog => 3,
+        Call::Write { .. } => 4,
+        Call::Read { .. } => 5,
+        Call::Resync => 6,
+        Call::Rebuild => 7,
+        Call::FullResync => 8,
     }
 }
 
 impl Tally {
     /// Counts of nothing so far.
     pub fn new() -> Tally {
-        Tally { numbers: [[[0; 14]; 14]; 4], alone: [[0; 40]; 4] }
+        Tally { numbers: [[[0; 15]; 15]; 9], alone: [[0; 40]; 9] }
     }
 
     /// Counts a case.
@@ -47,10 +67,10 @@ impl Tally {
         if others == 0 {
             self.numbers[call][code][code] += 1;
         }
-        for other in (0..14).filter(|&other| others >> other & 1 == 1) {
+        for other in (0..15).filter(|&other| others >> other & 1 == 1) {
             self.numbers[call][code][other] += 1;
         }
-        for (_, faults, _) in FAULTS.iter().filter(|(row, ..)| *row == code) {
+        for (_, faults) in FAULTS.iter().filter(|(row, _)| *row == code) {
             for &fault in faults.iter().filter(|&&fault| found.faults[code - 1].only(fault)) {
                 self.alone[call][fault as usize] += 1;
             }
@@ -62,7 +82,8 @@ impl Tally {
     pub fn complete(&self) -> Result<usize, String> {
         for (call, (name, numbers)) in NUMBERS.iter().enumerate() {
             for &code in [0].iter().chain(*numbers) {
-                let later = numbers.iter().filter(|&&other| other > code && code > 0 && (*name, code, other) != APART);
+                let meets = |other: usize| other > code && code > 0 && !APART.contains(&(name, code, other));
+                let later = numbers.iter().filter(|&&other| meets(other));
                 if let Some(other) = [code].iter().chain(later).find(|&&other| self.numbers[call][code][other] == 0) {
                     return Err(format!("no case of {name} answered {code} where {other} applied"));
                 }
@@ -75,8 +96,8 @@ impl Tally {
     fn faults(&self) -> Result<usize, String> {
         let mut least = usize::MAX;
         for (call, (name, _)) in NUMBERS.iter().enumerate() {
-            for &(_, faults, _) in FAULTS.iter().filter(|(.., of_format)| call > 0 || *of_format) {
-                for &fault in faults {
+            for (_, faults) in FAULTS.iter().filter(|(_, faults)| looks_for(name, faults)) {
+                for &fault in *faults {
                     least = least.min(self.alone[call][fault as usize]);
                     if self.alone[call][fault as usize] == 0 {
                         return Err(format!("no case of {name} had {fault:?} alone"));

@@ -1,8 +1,12 @@
-//! Complete walks of tiny shelves: every list of one or two slots and two places over the words that matter, and every
-//! choice of d, mode, failed members and member to fail.
+//! Complete walks of tiny shelves: every list of one or two slots and two places over the words that matter, with every
+//! call on those that are sound; and every choice of d, mode, failed members and call, with every member to fail.
 
-use super::calls::{Buffer, Call, Measures, Record, Shelf, Stand};
-use super::model::{record_after, NONE};
+use super::calls::{Buffer, Call, Measures, Record, Shelf};
+use super::lists::pick;
+use super::model::NONE;
+use super::stand::Stand;
+use super::works::outcome;
+use crate::random::Random;
 use crate::Outcome;
 
 /// The words of a list of two places, of a shelf of two blocks where one log record is used: every place and the first
@@ -20,6 +24,7 @@ fn shelf(d: usize, l: usize, h: usize, e: usize, list: Vec<u8>) -> Shelf {
         array: Buffer::of((0..d + 2).map(|at| at as u8 + 100).collect()),
         log: Buffer::of((0..l).map(|at| at as u8 + 200).collect()),
         list: Buffer::of(list),
+        data: Buffer::of(vec![33]),
     }
 }
 
@@ -35,22 +40,84 @@ fn next_list(digits: &mut [usize], choices: &[&[u32]], list: &mut [u8]) -> bool 
     false
 }
 
+/// The calls of which one is made on every list; full resync, which takes any list, is made on every one too.
+const ONE_OF: [Call; 7] = [
+    Call::Start,
+    Call::Fail(1),
+    Call::NewLog,
+    Call::Write { address: 0, count: 1 },
+    Call::Read { address: 1, count: 1 },
+    Call::Resync,
+    Call::Rebuild,
+];
+
+/// The calls that are made on every sound list, where one of the sets of members has failed.
+const ON_SOUND: [Call; 8] = [
+    Call::Write { address: 0, count: 1 },
+    Call::Write { address: 1, count: 1 },
+    Call::Write { address: 0, count: 2 },
+    Call::Read { address: 0, count: 1 },
+    Call::Read { address: 1, count: 1 },
+    Call::Read { address: 0, count: 2 },
+    Call::Rebuild,
+    Call::Resync,
+];
+
+/// Sets of failed members of a shelf with two data disks; none often, since most calls that store ask for it.
+const FAILED: [&[usize]; 16] = [
+    &[],
+    &[0],
+    &[1],
+    &[],
+    &[0, 1],
+    &[0, 2],
+    &[],
+    &[0, 3],
+    &[1, 2],
+    &[],
+    &[1, 3],
+    &[2],
+    &[3],
+    &[2, 3],
+    &[0, 4],
+    &[1, 4],
+];
+
 /// Walks all lists of so many slots, with the counts that are possible; hands back how many lists passed.
-fn all_lists(h: usize, stand: &mut Stand) -> Result<usize, String> {
+fn all_lists(h: usize, stand: &mut Stand, random: &mut Random) -> Result<usize, String> {
     let place: [&[u32]; 4] = [&ADDRESSES, &RECORDS, &RECORDS, &PLACES];
     let choices: Vec<&[u32]> = [&PLACES[..]].repeat(h).into_iter().chain(place).chain(place).collect();
-    let mut shelf = shelf(2, 2, h, 2, vec![0; 4 * choices.len()]);
+    let mut shelf = shelf(2, 3, h, 2, vec![0; 4 * choices.len()]);
     let (mut digits, mut passed) = (vec![0; choices.len()], 0);
     loop {
         for (mode, next, listed) in [(0, 0, 0), (1, 1, 1), (2, 1, 2)] {
             (shelf.record.mode, shelf.record.next, shelf.record.listed) = (mode, next, listed);
-            let call = [Call::Start, Call::Fail(1), Call::NewLog][(stand.calls + digits[0]) % 3];
-            passed += usize::from(stand.as_model(call, &shelf)?.code() != 3);
+            if stand.as_model(ONE_OF[pick(7, random)], &shelf)?.faults[2].none() {
+                passed += 1;
+                sound_list(&shelf, passed, stand)?;
+            }
         }
+        stand.as_model(Call::FullResync, &shelf)?;
         if !next_list(&mut digits, &choices, &mut shelf.list.bytes) {
             return Ok(passed);
         }
     }
+}
+
+/// Makes the calls of a sound list, each where another set of members has failed.
+fn sound_list(shelf: &Shelf, turn: usize, stand: &mut Stand) -> Result<(), String> {
+    let mut shelf = shelf.clone();
+    for (at, call) in ON_SOUND.into_iter().enumerate() {
+        shelf.record.failed = [0; 19];
+        FAILED[(3 * at + turn) % 16].iter().for_each(|&member| shelf.record.failed[member] = 1);
+        let (Call::Write { count, .. } | Call::Read { count, .. }) = call else {
+            stand.as_model(call, &shelf)?;
+            continue;
+        };
+        shelf.data = Buffer::of([33, 44][..count].to_vec());
+        stand.as_model(call, &shelf)?;
+    }
+    Ok(())
 }
 
 /// All sets of at most three of the nineteen flags.
@@ -97,14 +164,21 @@ fn all_members(stand: &mut Stand) -> Result<(), String> {
 /// Makes the calls of the walk over members on a shelf.
 fn every_call(shelf: &Shelf, stand: &mut Stand) -> Result<(), String> {
     let started = stand.as_model(Call::Start, shelf)?.code();
-    stand.as_model(Call::NewLog, shelf)?;
+    let last = shelf.record.measures.d - 1;
+    for call in [Call::NewLog, Call::Resync, Call::Rebuild, Call::FullResync] {
+        stand.as_model(call, shelf)?;
+    }
+    for address in [0, last] {
+        stand.as_model(Call::Read { address, count: 1 }, shelf)?;
+        stand.as_model(Call::Write { address, count: 1 }, shelf)?;
+    }
     if started == 1 {
         stand.as_model(Call::Fail(shelf.record.mode), shelf)?;
         return stand.as_model(Call::Fail(shelf.record.measures.d + 2), shelf).map(|_| ());
     }
     for member in (0..=20).chain(FAR) {
         let found = stand.as_model(Call::Fail(member), shelf)?;
-        if found.code() == 0 && record_after(Call::Fail(member), shelf.record, 0) == shelf.record {
+        if found.code() == 0 && outcome(Call::Fail(member), shelf, 0).0.record == shelf.record {
             return Err(format!("the model does not note that member {member} of a shelf of {shelf} failed"));
         }
     }
@@ -112,14 +186,15 @@ fn every_call(shelf: &Shelf, stand: &mut Stand) -> Result<(), String> {
 }
 
 /// Makes all three walks.
-pub fn group(_seed: u64) -> Outcome {
+pub fn group(seed: u64) -> Outcome {
+    let random = &mut Random::new(seed, 9);
     let mut stand = Stand::default();
-    let passed = all_lists(1, &mut stand)? + all_lists(2, &mut stand)?;
+    let passed = all_lists(1, &mut stand, random)? + all_lists(2, &mut stand, random)?;
     let lists = stand.calls;
     all_members(&mut stand)?;
     Ok(format!(
-        "{lists} calls on all lists of two places, {passed} of them on a sound one; {} on every d, mode, set of failed \
-         members and member to fail",
+        "{lists} calls on all lists of two places, {passed} of which are sound; {} on every d, mode, set of failed \
+         members and call, with every member to fail; seed {seed}",
         stand.calls - lists
     ))
 }

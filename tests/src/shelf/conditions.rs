@@ -1,0 +1,53 @@
+//! Rows 4 to 14 of the table of numbers, each tried on its own.
+
+use super::calls::{Call, Shelf};
+use super::model::failed;
+
+/// The bit of a number where it applies.
+fn is(number: u32, applies: bool) -> u32 {
+    u32::from(applies) << number
+}
+
+/// The numbers of rows 4 to 14 that apply to a call, bit n for number n. The flags tell for each address whether it is
+/// listed; there are none where nothing can be said of the list.
+pub fn conditions(call: Call, shelf: &Shelf, is_listed: &[bool]) -> u32 {
+    let r = &shelf.record;
+    let log = r.measures.d.saturating_add(2);
+    let array_failed = (0..19).any(|member| member < log && failed(r, member));
+    match call {
+        Call::Format => 0,
+        Call::Start => is(7, r.mode != 0) | is(8, array_failed) | is(9, failed(r, log)),
+        Call::Fail(member) => {
+            let flags = r.failed.iter().filter(|&&flag| flag != 0).count();
+            is(6, member > log) | is(10, failed(r, member)) | is(11, flags >= 2)
+        }
+        Call::NewLog => is(12, !failed(r, log)) | is(13, r.listed > 0),
+        Call::Write { address, count } => request(shelf, address, count) | is(8, array_failed),
+        Call::Read { address, count } => {
+            let wanted = address..address.saturating_add(count);
+            request(shelf, address, count) | is(14, withheld(shelf, is_listed, |block| wanted.contains(&block)))
+        }
+        Call::Resync => is(7, r.mode == 0) | is(8, array_failed),
+        Call::Rebuild => is(12, !array_failed) | is(14, withheld(shelf, is_listed, |_| true)),
+        Call::FullResync => is(8, array_failed),
+    }
+}
+
+/// The numbers of a bad address and of bad data that apply to a request.
+fn request(shelf: &Shelf, address: usize, count: usize) -> u32 {
+    let wide = |number: usize| number as u128;
+    let m = shelf.record.measures;
+    let blocks = wide(m.d) * wide(m.s);
+    let bad_address = count == 0 || wide(address) + wide(count) > blocks;
+    is(4, bad_address) | is(5, wide(shelf.data.told) != wide(count) * wide(m.b))
+}
+
+/// Whether the log failed and a wanted block is on a failed disk in a waiting stripe.
+fn withheld(shelf: &Shelf, is_listed: &[bool], wanted: impl Fn(usize) -> bool) -> bool {
+    let (r, d) = (&shelf.record, shelf.record.measures.d);
+    if !failed(r, d.saturating_add(2)) {
+        return false;
+    }
+    let mut blocks = 0..is_listed.len();
+    blocks.any(|block| wanted(block) && failed(r, block % d) && is_listed[block / d * d..][..d].contains(&true))
+}

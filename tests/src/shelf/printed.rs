@@ -1,0 +1,118 @@
+//! The customer's printed session: its input is made into calls, and what they answer is printed as the text says.
+
+use super::calls::{Buffer, Call, Measures, Record, Shelf};
+use super::stand::Stand;
+use crate::Outcome;
+
+/// The input.
+const INPUT: &str = "\
+data stripes block log slots places
+3 2 1 4 2 4
+call a b c
+start 0 0 0
+write 1 1 7
+fail 0 0 0
+fail 1 0 0
+read 1 1 0
+rebuild 0 0 0
+write 1 1 9
+write 4 1 5
+resync 0 0 0
+fail 6 0 0
+";
+
+/// The output.
+const OUTPUT: &str = "\
+call code mode listed next first
+format 0 0 0 0 0
+start 0 1 0 0 0
+write 0 1 1 2 0
+fail 0 1 1 2 0
+fail 0 1 1 2 0
+read 0 1 1 2 7
+rebuild 0 1 1 2 0
+write 0 1 1 3 0
+write 0 1 1 3 0
+resync 0 0 0 0 0
+fail 6 0 0 0 0
+";
+
+/// What the session leaves in the array, by member, and in the log.
+const ARRAY: [u8; 10] = [0, 0, 9, 5, 0, 0, 9, 5, 18, 10];
+const LOG: [u8; 4] = [0, 7, 9, 0];
+
+/// The decimal numbers of a line.
+fn numbers(fields: &str) -> Result<Vec<usize>, String> {
+    fields.split(' ').map(|field| field.parse().map_err(|_| format!("{field} is no number"))).collect()
+}
+
+/// The call of a line of the input, with the caller's data.
+fn call(line: &str, b: usize) -> Result<(&str, Call, Vec<u8>), String> {
+    let (name, fields) = line.split_once(' ').ok_or("a call has no fields")?;
+    let [x, count, fill] = numbers(fields)?[..] else {
+        return Err(format!("{line} has not three numbers"));
+    };
+    let (call, data) = match name {
+        "start" => (Call::Start, Vec::new()),
+        "fail" => (Call::Fail(x), Vec::new()),
+        "newlog" => (Call::NewLog, Vec::new()),
+        "write" => (Call::Write { address: x, count }, vec![fill as u8; count * b]),
+        "read" => (Call::Read { address: x, count }, vec![0; count * b]),
+        "resync" => (Call::Resync, Vec::new()),
+        "rebuild" => (Call::Rebuild, Vec::new()),
+        "full" => (Call::FullResync, Vec::new()),
+        _ => return Err(format!("there is no call {name}")),
+    };
+    Ok((name, call, data))
+}
+
+/// Makes a call and prints its line. The first byte is that of an accepted read, else 0.
+fn printed(name: &str, call: Call, shelf: &mut Shelf, stand: &mut Stand) -> Result<String, String> {
+    let code = stand.answer(call, shelf)?;
+    stand.hand_on(shelf);
+    let is_read = matches!(call, Call::Read { .. });
+    let first = stand.data().first().copied().filter(|_| is_read && code == 0).unwrap_or(0);
+    let Record { mode, listed, next, .. } = shelf.record;
+    Ok(format!("{name} {code} {mode} {listed} {next} {first}\n"))
+}
+
+/// The shelf that a line of measures asks for, with anything in record and buffers.
+fn unformatted(line: &str) -> Result<Shelf, String> {
+    let [d, s, b, l, h, e] = numbers(line)?[..] else {
+        return Err("there are not six measures".into());
+    };
+    let record = Record { measures: Measures { d, s, b, l, h, e }, mode: 5, next: 6, listed: 7, failed: [1; 19] };
+    let [array, log, list, data] =
+        [(d + 2) * s * b, l * b, 4 * h + 16 * e, 0].map(|length| Buffer::of(vec![77; length]));
+    Ok(Shelf { record, array, log, list, data })
+}
+
+/// Makes the session's calls; fails unless what is printed is the output and what is left is right. The bytes of failed
+/// disks are left alone, or are all this one before each call.
+fn session(spoilt: Option<u8>, stand: &mut Stand) -> Result<(), String> {
+    let mut lines = INPUT.lines().skip(1);
+    let mut shelf = unformatted(lines.next().unwrap_or(""))?;
+    let mut output = OUTPUT.split_inclusive('\n').next().unwrap_or("").to_string();
+    output += &printed("format", Call::Format, &mut shelf, stand)?;
+    for line in lines.skip(1) {
+        let (name, call, data) = call(line, shelf.record.measures.b)?;
+        for disk in (0..5).filter(|&disk| shelf.record.failed[disk] != 0) {
+            spoilt.iter().for_each(|&byte| shelf.array.bytes[2 * disk..][..2].fill(byte));
+        }
+        shelf.data = Buffer::of(data);
+        output += &printed(name, call, &mut shelf, stand)?;
+    }
+    match output == OUTPUT && shelf.array.bytes == ARRAY && shelf.log.bytes == LOG {
+        true => Ok(()),
+        false => Err(format!("{output}is printed, left are {:?} and {:?}", shelf.array.bytes, shelf.log.bytes)),
+    }
+}
+
+/// Replays the session as it stands, and with the bytes of failed disks changed.
+pub fn group(_seed: u64) -> Outcome {
+    let stand = &mut Stand::default();
+    for spoilt in [None, Some(0), Some(7), Some(255)] {
+        session(spoilt, stand)?;
+    }
+    Ok(format!("the customer's session, printed as the text has it; {} calls", stand.calls))
+}

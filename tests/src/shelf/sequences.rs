@@ -1,0 +1,224 @@
+//! Random sequences of calls from a fresh shelf, against the model and against the book. Each call gets the record and
+//! the buffers as the one before left them, save that the bytes of failed members change at will, and that the list is
+//! now and then arranged in another way that says the same.
+
+use super::book::Book;
+use super::calls::{Buffer, Call, Measures, Record, Shelf};
+use super::lists::{self, one_of, pick, List};
+use super::pair::Pair;
+use super::records;
+use super::requests::{self, Request};
+use super::stand::Stand;
+use crate::random::Random;
+use crate::Outcome;
+
+/// How many sequences are made, and the most calls of one.
+const SEQUENCES: usize = 8_000;
+const LONGEST: usize = 96;
+
+/// The most bytes of an array of which all blocks are compared with the book's after every call.
+const SMALL: usize = 600;
+
+/// A random number from 1 to the limit, often near 1 or the limit.
+fn up_to(limit: usize, random: &mut Random) -> usize {
+    match random.below(8) {
+        0..=3 => limit,
+        4 | 5 => 1 + pick(limit, random),
+        _ => 1 + pick(limit.min(8), random),
+    }
+}
+
+/// The size of blocks: mostly a few bytes, at times at the limits of what is handled at once.
+fn block_size(random: &mut Random) -> usize {
+    match random.below(200) {
+        0 => [4095, 4096][pick(2, random)],
+        1..=3 => [63, 64, 65, 127, 128, 129, 200, 513][pick(8, random)],
+        4..=9 => 1 + pick(40, random),
+        _ => 1 + pick(3, random),
+    }
+}
+
+/// Random measures: a log and a list with room for one block, for a stripe, for some, or for all.
+fn measures(random: &mut Random) -> Measures {
+    let b = block_size(random);
+    let d = 2 + pick(if random.below(3) == 0 { 15 } else { 4 }, random);
+    let most = if b > 100 { 2 } else { 1 + [1, 2, 4, 12, 40][pick(5, random)] };
+    let s = 1 + pick(most, random);
+    let rooms = [1, d, 3 * d, d * s, 2 * d * s, 4 * d * s];
+    let l = up_to(rooms[pick(6, random)], random);
+    let e = up_to(rooms[pick(6, random)], random).min(4096);
+    let h = [1, 2, d, 7, 256][pick(5, random)];
+    Measures { d, s, b, l: l.min(65536), h: if random.below(4) == 0 { 1 + pick(256, random) } else { h }, e }
+}
+
+/// A member to fail: the log, P or Q, a disk, one that is no member or has failed already.
+fn member(m: Measures, random: &mut Random) -> usize {
+    match random.below(12) {
+        0 => records::above(m.d + 2, random),
+        1..=3 => m.d + 2,
+        4 | 5 => m.d + pick(2, random),
+        _ => pick(m.d, random),
+    }
+}
+
+/// How often each call is made in the record's condition: start, fail, new log, write, read, resync, rebuild, full
+/// resync. A busy shelf has few failures, a poor one many.
+fn weights(r: &Record, busy: bool) -> [u64; 8] {
+    let array_failed = r.failed[..r.measures.d + 2].contains(&1);
+    let fails = if busy { 1 } else { 6 };
+    match (array_failed, r.mode) {
+        (true, _) => [1, 4, 2, 2, 14, 1, if busy { 8 } else { 3 }, 1],
+        (false, 0) => [14, fails, if r.failed.contains(&1) { 8 } else { 1 }, 6, 4, 1, 1, 1],
+        (false, 1) => [1, fails, 1, 24, 6, if busy { 1 } else { 2 }, 1, u64::from(!busy)],
+        (false, _) => [1, fails, 1, 5, 5, 5, 1, 1],
+    }
+}
+
+/// A request: anywhere and at times wrong, or right in a stripe with a listed block.
+fn request(shelf: &Shelf, random: &mut Random) -> Request {
+    let m = shelf.record.measures;
+    let listed: Vec<usize> = List::of(m, &shelf.list.bytes).entries().into_keys().collect();
+    match one_of(&listed, random) {
+        Some(address) if random.below(3) == 0 => requests::at(address / m.d * m.d + pick(m.d, random), m, random),
+        _ => requests::some(m, 1, random),
+    }
+}
+
+/// The next call, with the caller's data.
+fn next_call(shelf: &Shelf, busy: bool, random: &mut Random) -> (Call, Buffer) {
+    let (m, weights) = (shelf.record.measures, weights(&shelf.record, busy));
+    let (mut at, mut left) = (0, random.below(weights.iter().sum()));
+    while left >= weights[at] {
+        left -= weights[at];
+        at += 1;
+    }
+    let call = match at {
+        0 => Call::Start,
+        1 => Call::Fail(member(m, random)),
+        2 => Call::NewLog,
+        3 | 4 => {
+            let request = request(shelf, random);
+            return (request.call(at == 3), request.data(m, random));
+        }
+        5 => Call::Resync,
+        6 => Call::Rebuild,
+        _ => Call::FullResync,
+    };
+    (call, Buffer::empty())
+}
+
+/// Has a write store what is there already.
+fn same_again(call: Call, book: &Book, data: &mut Buffer) {
+    if let Call::Write { address, .. } = call {
+        if book.number(call, data.told) == 0 {
+            let blocks = data.bytes.len() / book.block(address).len();
+            data.bytes = (address..address + blocks).flat_map(|address| book.block(address)).copied().collect();
+        }
+    }
+}
+
+/// Changes bytes of the failed members: all of them, a few, or none.
+fn garble(shelf: &mut Shelf, random: &mut Random) {
+    let Measures { d, s, b, .. } = shelf.record.measures;
+    for member in (0..d + 3).filter(|&member| shelf.record.failed[member] != 0) {
+        let bytes =
+            if member == d + 2 { &mut shelf.log.bytes[..] } else { &mut shelf.array.bytes[member * s * b..][..s * b] };
+        match random.below(4) {
+            0 => random.fill(bytes),
+            1 => {
+                let at = pick(bytes.len(), random);
+                bytes[at] = random.next() as u8;
+            }
+            2 => bytes.fill(0),
+            _ => {}
+        }
+    }
+}
+
+/// Arranges the list in another way that says the same.
+fn rearrange(shelf: &mut Shelf, random: &mut Random) {
+    let m = shelf.record.measures;
+    let entries = List::of(m, &shelf.list.bytes).entries();
+    shelf.list.bytes = lists::arranged(m, &entries, random).bytes();
+}
+
+/// Resyncs a shelf without failed array members to the end: as many calls as stripes wait, and no fewer.
+fn resynced(pair: &mut Pair, stand: &mut Stand) -> Result<(), String> {
+    let waiting = pair.book.awaiting();
+    for left in (0..waiting).rev() {
+        let code = pair.step(Call::Resync, Buffer::empty(), stand)?;
+        if code != 0 || (pair.shelf.record.mode == 0) != (left == 0) {
+            return Err(format!("of {waiting} resyncs {left} are left, {code} was given; the shelf: {}", pair.shelf));
+        }
+    }
+    Ok(())
+}
+
+/// What the sequences came through: the calls by number, and how many rebuilds and reads were withheld.
+#[derive(Default)]
+struct Counts {
+    accepted: usize,
+    given: [usize; 15],
+    withheld: [usize; 2],
+}
+
+impl Counts {
+    /// Counts a call.
+    fn count(&mut self, call: Call, code: usize) {
+        self.accepted += usize::from(code == 0);
+        self.given[code] += 1;
+        self.withheld[usize::from(call == Call::Rebuild)] += usize::from(code == 14);
+    }
+
+    /// Fails unless numbers 4 to 14 were each given so many times, 14 by read and by rebuild.
+    fn complete(&self, at_least: usize) -> Result<(), String> {
+        if let Some(code) = (4..15).find(|&code| self.given[code] < at_least) {
+            return Err(format!("{code} was given {} times, not {at_least}", self.given[code]));
+        }
+        match self.withheld.iter().all(|&count| count >= at_least) {
+            true => Ok(()),
+            false => Err(format!("of read and rebuild {:?} were withheld, not {at_least}", self.withheld)),
+        }
+    }
+}
+
+/// Makes one sequence.
+fn sequence(stand: &mut Stand, counts: &mut Counts, random: &mut Random) -> Result<(), String> {
+    let m = measures(random);
+    let mut pair = Pair::fresh(m, random.next() as u8, stand)?;
+    let (is_busy, is_small) = (random.below(2) == 0, pair.shelf.array.told <= SMALL);
+    for _ in 0..pick(LONGEST, random) {
+        garble(&mut pair.shelf, random);
+        if random.below(4) == 0 {
+            rearrange(&mut pair.shelf, random);
+        }
+        let (call, mut data) = next_call(&pair.shelf, is_busy, random);
+        if random.below(8) == 0 {
+            same_again(call, &pair.book, &mut data);
+        }
+        counts.count(call, pair.step(call, data, stand)?);
+        if is_small || random.below(16) == 0 {
+            pair.holds()?;
+        }
+    }
+    if !pair.shelf.record.failed[..m.d + 2].contains(&1) {
+        resynced(&mut pair, stand)?;
+    }
+    pair.holds()
+}
+
+/// Makes the random sequences.
+pub fn group(seed: u64) -> Outcome {
+    let random = &mut Random::new(seed, 8);
+    let (mut stand, mut counts) = (Stand::default(), Counts::default());
+    for _ in 0..SEQUENCES {
+        sequence(&mut stand, &mut counts, random)?;
+    }
+    counts.complete(20)?;
+    let least = stand.seen.complete(20)?;
+    Ok(format!(
+        "{} calls in {SEQUENCES} sequences as the model and the book have them, {} accepted, {} reads and {} rebuilds \
+         withheld; each way of their work {least} times at least; seed {seed}",
+        stand.calls, counts.accepted, counts.withheld[0], counts.withheld[1]
+    ))
+}

@@ -1,0 +1,113 @@
+//! Walks of tiny shelves: from a fresh one on, every call is made on every shelf that is reached, the nearest first,
+//! against the model and against the book.
+
+use std::collections::{HashSet, VecDeque};
+
+use super::book::Book;
+use super::calls::{Buffer, Call, Measures, Record};
+use super::due::Entries;
+use super::lists::List;
+use super::pair::Pair;
+use super::stand::Stand;
+use crate::Outcome;
+
+/// The measures of the shelves: room in log and list for all, for some, and for next to nothing.
+const MEASURES: [[usize; 6]; 7] = [
+    [2, 1, 1, 3, 1, 2],
+    [2, 1, 1, 9, 2, 1],
+    [2, 2, 1, 4, 2, 4],
+    [2, 2, 1, 9, 1, 3],
+    [3, 1, 1, 5, 3, 3],
+    [3, 2, 1, 7, 2, 4],
+    [4, 1, 1, 6, 1, 4],
+];
+
+/// The most shelves of the same measures on which calls are made.
+const MOST: usize = 2_500;
+
+/// What tells two shelves apart: the record's mode, next and flags, array, log, what the list says, the book's blocks.
+type Key = ([usize; 2], [u8; 19], Vec<u8>, Vec<u8>, Entries, Vec<u8>);
+
+/// The calls that are made: each member fails; each block alone, each stripe and all blocks are written and read.
+fn calls(m: Measures) -> Vec<Call> {
+    let blocks = m.d * m.s;
+    let mut calls = vec![Call::Start, Call::NewLog, Call::Resync, Call::Rebuild, Call::FullResync];
+    calls.extend((0..m.d + 3).map(Call::Fail));
+    let single = (0..blocks).map(|address| (address, 1));
+    let ranges = single.chain((0..m.s).map(|stripe| (stripe * m.d, m.d))).chain([(0, blocks - 1), (1, blocks - 1)]);
+    for (address, count) in ranges.chain((m.s > 1).then_some((0, blocks))) {
+        calls.extend([Call::Write { address, count }, Call::Read { address, count }]);
+    }
+    calls
+}
+
+/// The caller's data: of two values for each address a write takes another one than the book has.
+fn data(call: Call, book: &Book) -> Vec<u8> {
+    let value = |address: usize| {
+        let first = 16 + address as u8;
+        if book.block(address)[0] == first {
+            first + 100
+        } else {
+            first
+        }
+    };
+    match call {
+        Call::Write { address, count } => (address..address + count).map(value).collect(),
+        Call::Read { count, .. } => vec![231; count],
+        _ => Vec::new(),
+    }
+}
+
+/// Overwrites the failed members.
+fn spoil(pair: &mut Pair) {
+    let Record { measures: Measures { d, s, .. }, failed, .. } = pair.shelf.record;
+    for member in (0..d + 2).filter(|&member| failed[member] != 0) {
+        pair.shelf.array.bytes[member * s..][..s].fill(200 + member as u8);
+    }
+    if failed[d + 2] != 0 {
+        pair.shelf.log.bytes.fill(250);
+    }
+}
+
+/// The key of a shelf beside its book.
+fn key(pair: &Pair) -> Key {
+    let Record { measures: m, mode, next, failed, .. } = pair.shelf.record;
+    let entries = List::of(m, &pair.shelf.list.bytes).entries();
+    let blocks = (0..m.d * m.s).map(|address| pair.book.block(address)[0]).collect();
+    ([mode, next], failed, pair.shelf.array.bytes.clone(), pair.shelf.log.bytes.clone(), entries, blocks)
+}
+
+/// Walks the shelves of these measures; hands back how many were reached.
+fn walk([d, s, b, l, h, e]: [usize; 6], stand: &mut Stand) -> Result<usize, String> {
+    let m = Measures { d, s, b, l, h, e };
+    let fresh = Pair::fresh(m, 99, stand)?;
+    let mut reached = HashSet::from([key(&fresh)]);
+    let mut waiting = VecDeque::from([fresh]);
+    while let Some(pair) = waiting.pop_front() {
+        for call in calls(m) {
+            let mut next = pair.clone();
+            let data = Buffer::of(data(call, &next.book));
+            if next.step(call, data, stand)? != 0 {
+                continue;
+            }
+            next.holds()?;
+            spoil(&mut next);
+            if reached.len() < MOST && reached.insert(key(&next)) {
+                waiting.push_back(next);
+            }
+        }
+    }
+    Ok(reached.len())
+}
+
+/// Makes the walks.
+pub fn group(_seed: u64) -> Outcome {
+    let stand = &mut Stand::default();
+    let reached = MEASURES.into_iter().map(|measures| walk(measures, stand)).collect::<Result<Vec<usize>, String>>()?;
+    let least = stand.seen.complete(20)?;
+    Ok(format!(
+        "{} calls, every one on each of {} shelves near fresh ones; each way of their work {least} times at least",
+        stand.calls,
+        reached.into_iter().sum::<usize>()
+    ))
+}

@@ -1,0 +1,363 @@
+//! What an accepted call on a shelf leaves, written anew from the text of each call, a block at a time.
+
+use std::ops::Range;
+
+use super::calls::{Call, Measures, Record, Shelf};
+use super::due::{Due, Entries, ListDue};
+use super::events::{Event, Events};
+use super::lists::List;
+use super::model::NONE;
+use crate::model::{made, made_all, recovered};
+
+/// What is due of a call that is answered with this number, and the ways in which its work is done.
+pub fn outcome(call: Call, shelf: &Shelf, code: usize) -> (Due, Events) {
+    let mut due = Due::nothing(call, shelf, code);
+    let mut events = Events::default();
+    if code != 0 {
+        return (due, events);
+    }
+    match call {
+        Call::Format => format(shelf, &mut due),
+        Call::Start => due.record.mode = 1,
+        Call::Fail(member) => due.record = failed(shelf.record, member),
+        Call::NewLog => due.record.failed[shelf.record.measures.d + 2] = 0,
+        Call::Read { address, count } => {
+            let sight = Sight::of(shelf);
+            due.data = Some((address..address + count).flat_map(|block| sight.block(block, &mut events)).collect());
+        }
+        Call::Write { .. } | Call::Resync | Call::Rebuild | Call::FullResync => {
+            let mut work = Work::of(call, shelf);
+            work.done(call, shelf, &mut due);
+            events = work.events;
+            work.leave(call, shelf, &mut due);
+        }
+    }
+    (due, events)
+}
+
+/// Array and log all zero, every list word none, mode 0, nothing failed, counts zero.
+fn format(shelf: &Shelf, due: &mut Due) {
+    due.record = Record { mode: 0, next: 0, listed: 0, failed: [0; 19], ..shelf.record };
+    due.array = Some(vec![0; shelf.array.bytes.len()]);
+    due.log = Some(vec![0; shelf.log.bytes.len()]);
+    due.list = ListDue::Bytes(NONE.to_le_bytes().repeat(shelf.list.bytes.len() / 4));
+}
+
+/// The record after a member failed. If it is the log, mode 1 becomes 2 when blocks are listed, else 0.
+fn failed(given: Record, member: usize) -> Record {
+    let mut after = given;
+    after.failed[member] = 1;
+    if member == given.measures.d + 2 && given.mode == 1 {
+        after.mode = if given.listed > 0 { 2 } else { 0 };
+    }
+    after
+}
+
+/// Where the block of a member in a stripe stands in the array.
+fn place(m: Measures, member: usize, stripe: usize) -> Range<usize> {
+    let first = (member * m.s + stripe) * m.b;
+    first..first + m.b
+}
+
+/// A shelf as read sees it.
+struct Sight<'a> {
+    shelf: &'a Shelf,
+    entries: Entries,
+}
+
+impl Sight<'_> {
+    /// The sight of a sound shelf.
+    fn of(shelf: &Shelf) -> Sight<'_> {
+        Sight { shelf, entries: List::of(shelf.record.measures, &shelf.list.bytes).entries() }
+    }
+
+    /// Whether a member has failed.
+    fn is_failed(&self, member: usize) -> bool {
+        self.shelf.record.failed[member] != 0
+    }
+
+    /// The bytes of a member's block in a stripe.
+    fn stored(&self, member: usize, stripe: usize) -> &[u8] {
+        &self.shelf.array.bytes[place(self.shelf.record.measures, member, stripe)]
+    }
+
+    /// A record of the log.
+    fn logged(&self, record: u32) -> &[u8] {
+        let b = self.shelf.record.measures.b;
+        &self.shelf.log.bytes[record as usize * b..][..b]
+    }
+
+    /// What read gives of a block: its bytes, or from Cur, else from Ori, else worked back by parity.
+    fn block(&self, address: usize, events: &mut Events) -> Vec<u8> {
+        let d = self.shelf.record.measures.d;
+        let entry = self.entries.get(&address);
+        if !self.is_failed(address % d) {
+            events.add(Event::ReadSound, entry.is_none());
+            events.add(Event::ReadSoundListed, entry.is_some());
+            return self.stored(address % d, address / d).to_vec();
+        }
+        events.add(Event::ReadWithoutLog, self.is_failed(d + 2));
+        events.add(Event::ReadCur, entry.is_some_and(|&[_, cur]| cur != NONE));
+        events.add(Event::ReadOri, entry.is_some_and(|&[_, cur]| cur == NONE));
+        match entry {
+            Some(&[ori, NONE]) => self.logged(ori).to_vec(),
+            Some(&[_, cur]) => self.logged(cur).to_vec(),
+            None => self.worked_back(address, events),
+        }
+    }
+
+    /// The original of a stripe's member: a listed block's Ori, else its bytes if its disk is sound; else missing.
+    fn original(&self, member: usize, stripe: usize) -> Option<&[u8]> {
+        let d = self.shelf.record.measures.d;
+        let entry = if member < d { self.entries.get(&(stripe * d + member)) } else { None };
+        match entry {
+            Some(&[NONE, _]) => None,
+            Some(&[ori, _]) => Some(self.logged(ori)),
+            None if self.is_failed(member) => None,
+            None => Some(self.stored(member, stripe)),
+        }
+    }
+
+    /// An unlisted block on a failed disk, worked back by parity from originals.
+    fn worked_back(&self, address: usize, events: &mut Events) -> Vec<u8> {
+        let Measures { d, b, .. } = self.shelf.record.measures;
+        let (stripe, x) = (address / d, address % d);
+        let (mut row, mut y) = (vec![0; (d + 2) * b], x);
+        for member in (0..d + 2).filter(|&member| member != x) {
+            match self.original(member, stripe) {
+                Some(bytes) => row[member * b..][..b].copy_from_slice(bytes),
+                None => y = member,
+            }
+        }
+        events.add(Event::ReadByBoth, y != x && y < d);
+        events.add(Event::ReadByQ, y == d);
+        events.add(Event::ReadByP, y == x || y == d + 1);
+        events.add(Event::ReadBesideOri, (0..d).any(|index| self.entries.contains_key(&(stripe * d + index))));
+        recovered(d, b, x, y, &row)[x * b..][..b].to_vec()
+    }
+}
+
+/// A shelf in work: the record, array and log as they are so far, and what the list says so far.
+struct Work {
+    m: Measures,
+    record: Record,
+    array: Vec<u8>,
+    log: Vec<u8>,
+    entries: Entries,
+    before: Entries,
+    events: Events,
+}
+
+/// A part of a write: the stripe, its blocks that are written by data index, and the data from the first of them on.
+struct Part<'a> {
+    stripe: usize,
+    written: Range<usize>,
+    data: &'a [u8],
+}
+
+impl Work {
+    /// A shelf before the work. Full resync does not look at the list.
+    fn of(call: Call, shelf: &Shelf) -> Work {
+        let m = shelf.record.measures;
+        let entries = match call {
+            Call::FullResync => Entries::new(),
+            _ => List::of(m, &shelf.list.bytes).entries(),
+        };
+        let (array, log) = (shelf.array.bytes.clone(), shelf.log.bytes.clone());
+        Work { m, record: shelf.record, array, log, before: entries.clone(), entries, events: Events::default() }
+    }
+
+    /// Does the work of a call; what resync tells goes to what is due.
+    fn done(&mut self, call: Call, shelf: &Shelf, due: &mut Due) {
+        match call {
+            Call::Write { address, count } => self.write(address, count, &shelf.data.bytes),
+            Call::Resync => due.stripe = Some(self.resync()),
+            Call::Rebuild => self.rebuild(shelf),
+            Call::FullResync => self.full_resync(),
+            _ => {}
+        }
+    }
+
+    /// Puts what the work left to what is due. The list stays where it says of all blocks what it said; full resync
+    /// may write it anew in any case.
+    fn leave(self, call: Call, shelf: &Shelf, due: &mut Due) {
+        due.record = Record { listed: self.entries.len(), ..self.record };
+        due.array = (self.array != shelf.array.bytes).then_some(self.array);
+        due.log = (self.log != shelf.log.bytes).then_some(self.log);
+        if call == Call::FullResync || self.entries != self.before {
+            due.list = ListDue::Says(self.entries);
+        }
+    }
+
+    /// The addresses of a stripe.
+    fn addresses(&self, stripe: usize) -> Range<usize> {
+        stripe * self.m.d..(stripe + 1) * self.m.d
+    }
+
+    /// Whether a stripe has a listed block.
+    fn waits(&self, stripe: usize) -> bool {
+        self.entries.range(self.addresses(stripe)).next().is_some()
+    }
+
+    /// Makes P and Q of a stripe.
+    fn make_parity(&mut self, stripe: usize) {
+        let Measures { d, b, .. } = self.m;
+        let row: Vec<u8> =
+            (0..d + 2).flat_map(|member| self.array[place(self.m, member, stripe)].iter().copied()).collect();
+        let row = made(d, b, &row);
+        for member in [d, d + 1] {
+            self.array[place(self.m, member, stripe)].copy_from_slice(&row[member * b..][..b]);
+        }
+    }
+
+    /// Drops a stripe's listed blocks. With the last one the log records become free, and mode 2 becomes 0.
+    fn drop_listed(&mut self, stripe: usize) {
+        let addresses = self.addresses(stripe);
+        self.entries.retain(|address, _| !addresses.contains(address));
+        if self.entries.is_empty() {
+            self.record.next = 0;
+            if self.record.mode == 2 {
+                self.record.mode = 0;
+            }
+        }
+    }
+
+    /// Splits the blocks into stripes, in rising order, and finishes each before the next.
+    fn write(&mut self, address: usize, count: usize, data: &[u8]) {
+        let Measures { d, b, .. } = self.m;
+        let (first, last) = (address / d, (address + count - 1) / d);
+        self.events.add(Event::WriteManyStripes, first < last);
+        for stripe in first..=last {
+            let from = address.max(stripe * d);
+            let to = (address + count).min((stripe + 1) * d);
+            let written = from - stripe * d..to - stripe * d;
+            self.write_part(Part { stripe, written, data: &data[(from - address) * b..] });
+        }
+    }
+
+    /// Writes a stripe's blocks: through the log if that is to be and can be, else with parity made afresh.
+    fn write_part(&mut self, part: Part) {
+        let (mut to_write, mut others) = (Vec::new(), Vec::new());
+        for index in 0..self.m.d {
+            if !self.entries.contains_key(&(part.stripe * self.m.d + index)) {
+                if part.written.contains(&index) { &mut to_write } else { &mut others }.push(index);
+            }
+        }
+        let reconstruct = others.len() < to_write.len();
+        let pre_read = if reconstruct { &others } else { &to_write };
+        let records = pre_read.len() + part.written.len();
+        let places = if reconstruct { others.len() + to_write.len() } else { to_write.len() };
+        let lacks_records = self.record.next + records > self.m.l;
+        let lacks_places = self.entries.len() + places > self.m.e;
+        self.note(reconstruct, places, lacks_records, lacks_places);
+        if self.record.mode != 1 || lacks_records || lacks_places {
+            return self.write_through(part);
+        }
+        self.log_part(&part, pre_read);
+        self.put(&part);
+    }
+
+    /// Notes in which way a stripe is written.
+    fn note(&mut self, reconstruct: bool, places: usize, lacks_records: bool, lacks_places: bool) {
+        let mode = self.record.mode;
+        let logs = mode == 1 && !lacks_records && !lacks_places;
+        let again = self.entries.is_empty() && !self.before.is_empty();
+        self.events.add(Event::WriteNormal, mode == 0);
+        self.events.add(Event::WriteTransitional, mode == 2);
+        self.events.add(Event::WriteLacksRecords, mode == 1 && lacks_records && !lacks_places);
+        self.events.add(Event::WriteLacksPlaces, mode == 1 && lacks_places && !lacks_records);
+        self.events.add(Event::WriteReconstruct, logs && reconstruct);
+        self.events.add(Event::WriteReadModify, logs && !reconstruct && places > 0);
+        self.events.add(Event::WriteAllListed, logs && places == 0);
+        self.events.add(Event::WriteLogsAfterDroppingLast, logs && again);
+    }
+
+    /// The disks get a stripe's new blocks.
+    fn put(&mut self, part: &Part) {
+        for (index, block) in part.written.clone().zip(part.data.chunks(self.m.b)) {
+            self.array[place(self.m, index, part.stripe)].copy_from_slice(block);
+        }
+    }
+
+    /// The disks get the new blocks, P and Q are made afresh, and the stripe's listed blocks are dropped.
+    fn write_through(&mut self, part: Part) {
+        let (listed, mode) = (self.entries.len(), self.record.mode);
+        self.put(&part);
+        self.make_parity(part.stripe);
+        self.drop_listed(part.stripe);
+        let left = self.entries.len();
+        self.events.add(Event::WriteDropsSome, 0 < left && left < listed);
+        self.events.add(Event::WriteDropsLastAccelerating, left == 0 && listed > 0 && mode == 1);
+        self.events.add(Event::WriteDropsLastTransitional, left == 0 && listed > 0 && mode == 2);
+    }
+
+    /// Appends a block to the log; hands back its record.
+    fn append(&mut self, block: &[u8]) -> u32 {
+        let record = self.record.next;
+        self.log[record * self.m.b..][..self.m.b].copy_from_slice(block);
+        self.record.next += 1;
+        record as u32
+    }
+
+    /// Appends the pre-read values with Ori set, then the new ones with Cur set.
+    fn log_part(&mut self, part: &Part, pre_read: &[usize]) {
+        let first = part.stripe * self.m.d;
+        for &index in pre_read {
+            let block = self.array[place(self.m, index, part.stripe)].to_vec();
+            let ori = self.append(&block);
+            self.entries.insert(first + index, [ori, NONE]);
+        }
+        for (index, block) in part.written.clone().zip(part.data.chunks(self.m.b)) {
+            let cur = self.append(block);
+            self.entries.entry(first + index).or_insert([NONE, NONE])[1] = cur;
+        }
+    }
+
+    /// Enters mode 2 and makes P and Q of the lowest waiting stripe, or goes to mode 0 if none waits. Tells the stripe.
+    fn resync(&mut self) -> usize {
+        self.record.mode = 2;
+        self.events.add(Event::ResyncWithoutLog, self.record.failed[self.m.d + 2] != 0);
+        let Some(stripe) = (0..self.m.s).find(|&stripe| self.waits(stripe)) else {
+            self.record.mode = 0;
+            self.events.add(Event::ResyncNone, true);
+            return self.m.s;
+        };
+        self.make_parity(stripe);
+        self.drop_listed(stripe);
+        self.events.add(Event::ResyncLast, self.entries.is_empty());
+        self.events.add(Event::ResyncSome, !self.entries.is_empty());
+        stripe
+    }
+
+    /// Fills every failed data disk with what read would give; makes parity afresh if P or Q had failed.
+    fn rebuild(&mut self, shelf: &Shelf) {
+        let Measures { d, s, b, .. } = self.m;
+        let (sight, mut events) = (Sight::of(shelf), Events::default());
+        let is_listed = !self.entries.is_empty();
+        for disk in (0..d).filter(|&disk| sight.is_failed(disk)) {
+            self.events.add(if is_listed { Event::RebuildDataListed } else { Event::RebuildData }, true);
+            for stripe in 0..s {
+                let block = sight.block(stripe * d + disk, &mut events);
+                self.array[place(self.m, disk, stripe)].copy_from_slice(&block);
+            }
+        }
+        self.events.add(Event::RebuildWithoutLog, sight.is_failed(d + 2));
+        if sight.is_failed(d) || sight.is_failed(d + 1) {
+            self.events.add(if is_listed { Event::RebuildParityListed } else { Event::RebuildParity }, true);
+            self.array = made_all(d, s, b, &self.array);
+            self.entries.clear();
+            (self.record.mode, self.record.next) = (0, 0);
+        }
+        self.record.failed[..d + 2].fill(0);
+    }
+
+    /// Makes P and Q of every stripe, empties the list, and sets both counts and the mode to 0.
+    fn full_resync(&mut self) {
+        let Measures { d, s, b, .. } = self.m;
+        self.events.add(Event::FullResyncFresh, self.record.listed == 0);
+        self.events.add(Event::FullResyncListed, self.record.listed > 0);
+        self.events.add(Event::FullResyncWithoutLog, self.record.failed[d + 2] != 0);
+        self.array = made_all(d, s, b, &self.array);
+        (self.record.mode, self.record.next) = (0, 0);
+    }
+}
