@@ -1,7 +1,7 @@
 -- The tests as the code makes them, where they are made in another way than the definitions of number 3 and of stale stripes say.
 -- Assumes nothing.
 use Prim.Native.Nat.{ℕ, zero, suc, _+_, _*_, _-_, _/_, _%_}
-use mathlib.Core.Bool.{Bool, true, false, not, _&&_}
+use mathlib.Core.Bool.{Bool, true, false, _&&_}
 use mathlib.Core.List.{List}
 use lib.Dec.{ltb, eqb}
 use Rattle.shelf.specs.declared.record.Geometry.{Geometry}

@@ -1,5 +1,5 @@
--- Words for the contracts of the functions that a rebuild is made of: what they ask of what is lent; the array with blocks filled as a read gives them, one after another and
--- stripe after stripe, and the record and the list after it.
+-- Words for the contracts of the functions that a rebuild is made of: what they ask of what is lent; the array with blocks filled as a read gives
+-- them, one after another and stripe after stripe, and the record and the list after it.
 -- Assumes nothing.
 use mathlib.Core.Bool.{Bool, true, _||_}
 use mathlib.Core.List.{List}

@@ -1,11 +1,11 @@
 -- Words for the contracts of the functions that a write is made of: tables by data index of what a write brings to a stripe, the plan by which a
 -- stripe is logged, and blocks copied by tables.
 -- Assumes nothing.
-use mathlib.Core.Bool.{Bool, true, false, not, _&&_, _||_}
+use mathlib.Core.Bool.{Bool, true, false, _&&_, _||_}
 use mathlib.Core.List.{List}
 use mathlib.Core.Path.{_≡_}
 use Prim.Native.Nat.{ℕ, zero, suc, _+_, _*_, _-_, _≤_, _<_}
-use lib.Dec.{eqb, ltb, leb}
+use lib.Dec.{leb}
 use lib.ListN.{length, getD}
 use Rattle.stripe.specs.Blocks.{block, put}
 use Rattle.stripe.specs.Places.{place, numbered, Tabled}
@@ -179,7 +179,8 @@ WritesStripe g t from p h h' =
     (s : State) (w : ℕ → Bool) (v : ℕ → List ℕ) → Shared g w v from p → Shows g s h
     → Shows g (writeStripe g s t w v) h' × KeepsList g t (h .list) (h' .list)
 
--- what is asked for stripe t: record, array and list have passed rows 1 to 3, as far as its functions ask, some block is written, and all of them stand in the caller's data
+-- what is asked for stripe t: record, array and list have passed rows 1 to 3, as far as its functions ask, some block is written, and all of them
+-- stand in the caller's data
 pub record Writable (r : Shelf) (a l : List ℕ) (t : ℕ) (from : List ℕ) (p : Share) : Type 0 where
   pub listing : ListReady r l
   pub array : length a ≡ arrayLength (r .geometry)

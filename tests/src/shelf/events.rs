@@ -1,8 +1,20 @@
 //! The ways in which an accepted call does its work, so that a group can tell whether it came through all of them.
 
-/// A way of the work, by the call's name.
-#[derive(Clone, Copy, Debug, PartialEq)]
-pub enum Event {
+/// Declares the ways of the work, and the list of them all.
+macro_rules! events {
+    ($($name:ident),* $(,)?) => {
+        /// A way of the work, by the call's name.
+        #[derive(Clone, Copy, Debug, PartialEq)]
+        pub enum Event {
+            $($name),*
+        }
+
+        /// All the ways.
+        const ALL: &[Event] = &[$(Event::$name),*];
+    };
+}
+
+events! {
     WriteReadModify,
     WriteReconstruct,
     WriteAllListed,
@@ -37,45 +49,6 @@ pub enum Event {
     FullResyncListed,
     FullResyncWithoutLog,
 }
-
-use Event::*;
-
-/// All the ways.
-const ALL: [Event; 33] = [
-    WriteReadModify,
-    WriteReconstruct,
-    WriteAllListed,
-    WriteLacksRecords,
-    WriteLacksPlaces,
-    WriteNormal,
-    WriteTransitional,
-    WriteManyStripes,
-    WriteDropsSome,
-    WriteDropsLastAccelerating,
-    WriteDropsLastTransitional,
-    WriteLogsAfterDroppingLast,
-    ReadSound,
-    ReadSoundListed,
-    ReadCur,
-    ReadOri,
-    ReadByP,
-    ReadByQ,
-    ReadByBoth,
-    ReadBesideOri,
-    ReadWithoutLog,
-    ResyncNone,
-    ResyncSome,
-    ResyncLast,
-    ResyncWithoutLog,
-    RebuildData,
-    RebuildDataListed,
-    RebuildParity,
-    RebuildParityListed,
-    RebuildWithoutLog,
-    FullResyncFresh,
-    FullResyncListed,
-    FullResyncWithoutLog,
-];
 
 /// The ways of one call.
 #[derive(Clone, Copy, Default)]
@@ -106,14 +79,14 @@ impl Default for Seen {
 impl Seen {
     /// Counts a call.
     pub fn count(&mut self, events: Events) {
-        for event in ALL.into_iter().filter(|&event| events.has(event)) {
+        for &event in ALL.iter().filter(|&&event| events.has(event)) {
             self.0[event as usize] += 1;
         }
     }
 
     /// Fails unless each way was gone so many times. Hands back the least count.
     pub fn complete(&self, at_least: usize) -> Result<usize, String> {
-        for event in ALL {
+        for &event in ALL {
             let count = self.0[event as usize];
             if count < at_least {
                 return Err(format!("{event:?} was seen {count} times, not {at_least}"));

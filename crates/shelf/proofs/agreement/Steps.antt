@@ -1,7 +1,6 @@
 -- What one call keeps and gives, for the claim over sequences of calls: the number is the book's, an accepted call keeps the agreement, and what a
 -- read serves or a rebuild stores is what the book holds.
 -- Assumes nothing.
-use mathlib.Core.Bool.{not}
 use mathlib.Core.Path.{_≡_, sym, ap, _∙_}
 use Prim.Native.Nat.{ℕ, _+_, _/_, _%_, _<_}
 use native.Mathlib.Decide.{ℕ-discrete}

@@ -1,7 +1,7 @@
 -- Parity made afresh in the array and entries dropped from the list: what is left is what `made` and `remade` say. Laws for resync and full resync;
 -- write's stripes that are not logged, and rebuild, go by the same.
 -- Assumes nothing.
-use mathlib.Core.Bool.{Bool, true, false, not, _||_}
+use mathlib.Core.Bool.{Bool, true, false, _||_}
 use mathlib.Core.List.{List}
 use mathlib.Core.Logic.{_≢_}
 use mathlib.Core.Option.{Option, none}

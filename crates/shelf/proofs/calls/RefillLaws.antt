@@ -12,7 +12,7 @@ use native.Mathlib.Omega.{arith}
 use lib.Dec.{eqb, ltb}
 use lib.ListN.{length, getD}
 use borrow.Author.Tests.{lt-ltb, le-ltb, eq-eqb, ne-eqb, ltb-true, eqb-true}
-use Rattle.stripe.specs.Blocks.{block, gen, put}
+use Rattle.stripe.specs.Blocks.{block, put}
 use Rattle.stripe.specs.Parity.{solved}
 use Rattle.stripe.specs.Places.{place, parityMade}
 use Rattle.stripe.proofs.Laws.{fits, place-lt, place-inj, place-other, put-block, block-whole, block-put-same, block-put-other, length-put, getD-block, solved-ignores, second-filled, getD-gen, gen-ext}

@@ -3,27 +3,24 @@
 use mathlib.Core.Bool.{Bool, true, false, _&&_, _||_}
 use mathlib.Core.List.{List}
 use mathlib.Core.Logic.{_≢_}
-use mathlib.Core.Option.{Option, none, some}
+use mathlib.Core.Option.{Option}
 use mathlib.Core.Path.{_≡_, refl, sym, ap, ap₂, _∙_, subst}
 use Prim.Native.Nat.{ℕ, _+_, _*_, _-_, _≤_, _<_}
-use native.Mathlib.Decide.{ℕ-discrete}
 use native.Mathlib.Omega.{arith}
-use lib.Dec.{eqb, ltb, leb}
-use lib.ListN.{length, getD, set}
-use Rattle.stripe.specs.Blocks.{block}
-use Rattle.stripe.specs.Places.{place, numbered, Tabled, parityMade}
-use Rattle.stripe.proofs.Laws.{fits, place-lt, place-inj, place-other}
-use Rattle.shelf.specs.Counting.{choose, any, setAt}
-use Rattle.shelf.specs.Members.{InRange, addressOf}
+use lib.Dec.{eqb}
+use lib.ListN.{length}
+use Rattle.stripe.specs.Places.{place, parityMade}
+use Rattle.shelf.specs.Counting.{choose}
+use Rattle.shelf.specs.Members.{addressOf}
 use Rattle.shelf.specs.State.{State, isSome, listed}
-use Rattle.shelf.specs.Calls.{nextLeft, settled, dropped, made, overwritten, written, given}
+use Rattle.shelf.specs.Calls.{nextLeft, settled, made, overwritten}
 use Rattle.shelf.specs.Words.{words}
 use Rattle.shelf.specs.HashList.{Entry, entry, entries, noneWord, said, valid, listedIn, staleIn}
 use Rattle.shelf.specs.Rewriting.{Rewritten, dropStripe}
-use Rattle.shelf.specs.Lent.{Lent, lent, recordAt, oriBy, curBy, listedBy, arrayBlock, arrayLength, recordOf}
+use Rattle.shelf.specs.Lent.{Lent, lent, recordAt, oriBy, curBy, listedBy}
 use Rattle.shelf.specs.Records.{withListed}
 use Rattle.shelf.specs.Reading.{ListReady}
-use Rattle.shelf.specs.Showing.{HoldsArray, HoldsLog, HoldsList, Shows}
+use Rattle.shelf.specs.Showing.{HoldsArray, HoldsList, Shows}
 use Rattle.shelf.specs.Writing.{newStored, Shared}
 use Rattle.shelf.specs.declared.record.Geometry.{Geometry}
 use Rattle.shelf.specs.declared.record.Shelf.{Shelf}

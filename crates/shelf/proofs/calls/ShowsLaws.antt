@@ -7,15 +7,15 @@ use Prim.Native.Nat.{ℕ, _+_, _*_, _≤_, _<_}
 use native.Mathlib.Omega.{arith}
 use lib.Dec.{eqb, ltb}
 use lib.ListN.{length}
-use borrow.Author.Tests.{eqb-true, ltb-false, le-ltb}
+use borrow.Author.Tests.{ltb-false}
 use Rattle.shelf.specs.Members.{InRange}
 use Rattle.shelf.specs.State.{State}
 use Rattle.shelf.specs.Calls.{nextLeft}
 use Rattle.shelf.specs.Words.{words}
 use Rattle.shelf.specs.HashList.{valid}
-use Rattle.shelf.specs.Lent.{Lent, lent, flagAt, stateOf, arrayBlock, arrayLength, logLength, listLength, roleBlock, recordOf, Leaves}
+use Rattle.shelf.specs.Lent.{Lent, lent, flagAt, stateOf, arrayBlock, listLength, roleBlock, Leaves}
 use Rattle.shelf.specs.Reading.{ListReady}
-use Rattle.shelf.specs.Showing.{HoldsArray, HoldsLog, HoldsList, Shows}
+use Rattle.shelf.specs.Showing.{Shows}
 use Rattle.shelf.specs.declared.record.Geometry.{Geometry}
 use Rattle.shelf.specs.declared.record.Shelf.{Shelf}
 use Rattle.shelf.proofs.general.TestLaws.{cases, choose-true, choose-false}

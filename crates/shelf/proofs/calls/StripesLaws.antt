@@ -7,16 +7,16 @@ use mathlib.Core.Option.{Option, none, some}
 use mathlib.Core.Path.{_≡_, refl, sym, ap, ap₂, _∙_, subst}
 use Prim.Native.Nat.{ℕ, zero, suc, _+_, _*_, _-_, _/_, _%_, _≤_, _<_}
 use native.Mathlib.Decide.{ℕ-discrete, decLt}
-use native.Mathlib.Nat.{div-add-mod', mod-lt, mul-le-mul-right, div-lt-iff-lt-mul, mul-comm}
+use native.Mathlib.Nat.{div-add-mod', mul-le-mul-right, div-lt-iff-lt-mul, mul-comm}
 use native.Mathlib.Numerals.{add-one}
 use native.Mathlib.Omega.{arith}
 use lib.Dec.{eqb, ltb, leb}
-use lib.ListN.{length, getD}
+use lib.ListN.{length}
 use borrow.Author.Tests.{eq-eqb, ne-eqb, eqb-true, le-leb, lt-leb, lt-ltb, le-ltb, leb-true, ltb-true}
 use Rattle.stripe.specs.Blocks.{block}
 use Rattle.stripe.specs.Places.{numbered}
 use Rattle.stripe.proofs.Laws.{fits}
-use Rattle.shelf.specs.Counting.{choose, count, any, setAt}
+use Rattle.shelf.specs.Counting.{count, any}
 use Rattle.shelf.specs.Members.{InRange, addressOf, addresses}
 use Rattle.shelf.specs.State.{Log, State, isSome, listed, marksIn}
 use Rattle.shelf.specs.Calls.{settled, made, preRead, recordsFor, placesFor, oriAppended, curAppended, logged, logs, overwritten, writeStripe, written, given, writeTo, orElse}
@@ -29,8 +29,8 @@ use Rattle.shelf.specs.declared.record.Geometry.{Geometry}
 use Rattle.shelf.specs.declared.record.Shelf.{Shelf}
 use Rattle.shelf.specs.declared.share.Share.{Share}
 use Rattle.shelf.specs.declared.plan.Plan.{Plan}
-use Rattle.shelf.proofs.general.TestLaws.{cases, clash, and-left, and-right, and-both, and-false, choose-true, choose-false, not-off}
-use Rattle.shelf.proofs.general.CountLaws.{any-some, any-none, any-found, none-any, any-ext, count-ext, setRow-here, setRow-other}
+use Rattle.shelf.proofs.general.TestLaws.{cases, clash, and-left, and-right, and-false, choose-true, choose-false, not-off}
+use Rattle.shelf.proofs.general.CountLaws.{any-some, any-none, any-found, none-any, any-ext, setRow-here, setRow-other}
 use Rattle.shelf.proofs.agreement.AppendLaws.{append-next, append-noted}
 use Rattle.shelf.proofs.agreement.ListedLaws.{never-some}
 use Rattle.shelf.proofs.hashlist.ListMeaning.{said-cur}

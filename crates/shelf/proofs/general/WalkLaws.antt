@@ -151,10 +151,6 @@ unfolding count
 count-suc n f = refl
 
 -- the turns of a loop that counts
-pub count-start : (f : ℕ → Bool) → 0 ≡ count 0 f
-unfolding count
-count-start f = refl
-
 pub count-turn : (n k : ℕ) (f : ℕ → Bool) (t : Bool) → k ≡ count n f → t ≡ f n → k + bit t ≡ count (n + 1) f
 count-turn n k f t q e =
     let s : n + 1 ≡ suc n = omega arith in ap₂ (λ (j : ℕ) (b : Bool). j + bit b) q e ∙ sym (count-suc n f)

@@ -12,7 +12,7 @@ use lib.ListN.{length, getD, set, replicate, length-set, length-replicate, getD-
 use lib.Seq.{getD-set-same, getD-set-other}
 use borrow.Author.Tests.{eq-eqb, ne-eqb, lt-ltb, le-ltb, eqb-true, eqb-false}
 use Rattle.shelf.specs.declared.record.Geometry.{Geometry}
-use Rattle.shelf.specs.HashList.{noneWord, addressAt, oriAt, curAt, nextAt, seek, lookup, Entry, entry, entryIn}
+use Rattle.shelf.specs.HashList.{noneWord, addressAt, oriAt, curAt, nextAt, seek, lookup, Entry, entryIn}
 use Rattle.shelf.specs.Rewriting.{putFront, putAll, encode}
 use Rattle.shelf.proofs.general.TestLaws.{either-way}
 

@@ -1,9 +1,9 @@
 -- Stale stripes: the lowest, found by going through the places; whether one is stale, by its blocks.
 -- Assumes nothing.
-use mathlib.Core.Bool.{Bool, true, false, not, _&&_}
+use mathlib.Core.Bool.{Bool, true, _&&_}
 use mathlib.Core.List.{List}
 use mathlib.Core.Logic.{⊎-elim, _≢_}
-use mathlib.Core.Path.{_≡_, refl, sym, ap, ap₂, _∙_, subst}
+use mathlib.Core.Path.{_≡_, sym, ap, ap₂, _∙_, subst}
 use Prim.Native.Nat.{ℕ, _+_, _*_, _-_, _/_, _%_, _≤_, _<_}
 use native.Mathlib.Nat.{mod-lt}
 use native.Mathlib.Omega.{arith}
@@ -14,10 +14,10 @@ use Rattle.shelf.specs.Counting.{any, first}
 use Rattle.shelf.specs.HashList.{addressAt, lookup, valid, staleIn, listedIn}
 use Rattle.shelf.specs.Checking.{lowerStale}
 use Rattle.shelf.proofs.general.TestLaws.{either-way, not-so, false-is, and-both, choose-true, choose-false}
-use Rattle.shelf.proofs.general.AddressLaws.{stripe-of, index-of, address-is}
+use Rattle.shelf.proofs.general.AddressLaws.{stripe-of, address-is}
 use Rattle.shelf.proofs.general.WalkLaws.{any-turn, any-least, first-is}
 use Rattle.shelf.proofs.general.CountLaws.{any-some}
-use Rattle.shelf.proofs.hashlist.FoundLaws.{found-address, found-sound}
+use Rattle.shelf.proofs.hashlist.FoundLaws.{found-address}
 
 -- ---- the tests of lower_stale
 

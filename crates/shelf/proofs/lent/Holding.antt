@@ -1,7 +1,7 @@
 -- The agreement of what is lent with the book: what holds of record and bytes between any two calls. It holds of a fresh shelf, every answered call
 -- keeps it, and so do failed members' bytes that change.
 -- Assumes nothing.
-use mathlib.Core.Bool.{Bool, true, false, not, _||_}
+use mathlib.Core.Bool.{Bool, true, false, _||_}
 use mathlib.Core.List.{List}
 use mathlib.Core.Option.{Option}
 use mathlib.Core.Path.{_≡_, refl, sym, ap, ap₂, _∙_, subst, fun-ext}

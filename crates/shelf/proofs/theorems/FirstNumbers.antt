@@ -8,7 +8,7 @@ use Prim.Native.Nat.{ℕ, _<_}
 use native.Mathlib.Omega.{arith}
 use lib.ListN.{length}
 use Rattle.shelf.specs.Members.{InRange}
-use Rattle.shelf.specs.Status.{Call, start, fail, write, read, resync, rebuild, newLog, fullResync, row, codeOf}
+use Rattle.shelf.specs.Status.{Call, start, fail, write, read, resync, rebuild, newLog, fullResync, codeOf}
 use Rattle.shelf.specs.Book.{Book}
 use Rattle.shelf.specs.Lent.{Lent, badMeasures, numberOf}
 use Rattle.shelf.specs.Sequence.{Reached}
