@@ -1,0 +1,6 @@
+pub mod TestLaws
+pub mod NameLaws
+pub mod FieldLaws
+pub mod LineLaws
+pub mod AnswerLaws
+pub mod Examples

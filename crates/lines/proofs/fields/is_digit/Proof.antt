@@ -1,0 +1,20 @@
+-- `lines::fields::is_digit` meets its contract.
+-- Assumes nothing.
+use borrow.Author.Tests.{le-leb, lt-leb}
+use Rattle.lines.specs.Fields.{isDigit}
+use borrow.Author.Needs.{needs}
+use Rattle.lines.proofs.fields.is_digit.Statement.{statement}
+use Rattle.lines.proofs.fields.is_digit.Tie as tie
+use Rattle.lines.proofs.fields.is_digit.Reads as reads
+use Rattle.lines.proofs.fields.is_digit.Lts as lts
+
+returns : tie.Need-returns
+unfolding isDigit
+returns c = simp (lt-leb _ _ (c .if1 .taken))
+
+returns-2 : tie.Need-returns-2
+unfolding isDigit
+returns-2 c = simp (le-leb _ _ (c .if1 .left))
+
+pub is-digit-spec : {M : Type 1} → statement M
+is-digit-spec = tie.close (tie.spec returns returns-2)

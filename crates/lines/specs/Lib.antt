@@ -1,0 +1,6 @@
+pub mod Names
+pub mod Fields
+pub mod RequestLines
+pub mod MeasureLines
+pub mod AnswerLines
+pub mod Walking
