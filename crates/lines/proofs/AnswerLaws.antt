@@ -9,7 +9,7 @@ use native.Mathlib.Numerals.{add-one}
 use native.Mathlib.Decide.{decLt}
 use native.Mathlib.Omega.{arith}
 use lib.Dec.{ltb}
-use lib.ListN.{length, take, drop, getD, set, length-append, take-append-drop}
+use lib.ListN.{length, take, drop, getD, set, length-append, length-drop, take-append-drop}
 use lib.Seq.{set-split, length-take-le, take-at, drop-at, drop-drop, drop-append-add, take-suc}
 use borrow.Author.Tests.{lt-ltb, le-ltb, le-leb}
 use Rattle.lines.specs.Fields.{isDigit, allDigits, numberOf, limit, isValue}
@@ -184,3 +184,10 @@ name-short Rebuild = omega arith
 name-short NewLog = omega arith
 name-short FullResync = omega arith
 name-short Unreadable = omega arith
+
+-- text put at the start of a buffer fits in it
+pub puts-within : {out text fin : List ℕ} {e : ℕ} → Puts out 0 text fin e → length fin ≡ length out → e ≤ length out
+puts-within {out} {text} {fin} {e} p l =
+    let n : length fin ≡ length text + (length out - e) =
+    ap (λ (xs : List ℕ). length xs) (p .holds) ∙ length-append text (drop e out) ∙ ap (λ (k : ℕ). length text + k) (length-drop e out) in
+    omega (arith, p .ends)

@@ -21,7 +21,7 @@ mod resync;
 mod row;
 mod share;
 mod stale;
-mod status;
+pub mod status;
 mod words;
 mod write;
 
@@ -298,7 +298,7 @@ fn fresh_record(g: record::Geometry) -> record::Shelf
 }
 
 // Makes every byte of s v.
-fn fill(s: &mut [u8], v: u8)
+pub fn fill(s: &mut [u8], v: u8)
     ensures { λ _. ⌜ now (s .exit) ≡ replicate (length (now (s .entry))) v ⌝ }
 {
     let mut i: usize = 0;

@@ -371,7 +371,7 @@ fn data_failed_at(shelf: record::Shelf, x: usize) -> bool
 }
 
 // Row 1, of the geometry: whether a measure is outside its range.
-fn bad_measures(g: record::Geometry) -> bool
+pub fn bad_measures(g: record::Geometry) -> bool
     ensures { λ r. ⌜ r ≡ badMeasures g ⌝ }
 {
     let e = outside(1, 4096, g.e);

@@ -6,7 +6,6 @@ use mathlib.Core.List.{_∷_, []}
 use native.Mathlib.Omega.{arith}
 use Rattle.lines.specs.Walking.{Puts}
 use Rattle.lines.proofs.AnswerLaws.{decimal-few, decimal-more, decimal-one, decimal-longer, puts-byte, puts-then, puts-text}
-use borrow.Author.Needs.{needs}
 use Prim.Native.Nat.{ℕ, _+_, _%_, _<_}
 use borrow.Fn.Kinds.{In}
 use borrow.Fn.PlainCycle.{Measures, is, falls, and}

@@ -6,10 +6,6 @@ use Rattle.lines.proofs.AnswerLaws.{name-short, puts-then}
 use borrow.Author.Needs.{needs}
 use Rattle.lines.proofs.answers.put_answer.Statement.{statement}
 use Rattle.lines.proofs.answers.put_answer.Tie as tie
-use Rattle.lines.proofs.answers.put_answer.Reads as reads
-use Rattle.lines.proofs.answers.put_answer.Lts as lts
-use Rattle.lines.proofs.answers.put_name.Reads as put-name-reads
-use Rattle.lines.proofs.answers.put_numbers.Reads as put-numbers-reads
 
 put-name-requires : tie.Need-put-name-requires
 put-name-requires c κs = search needs

@@ -6,10 +6,6 @@ use Rattle.lines.proofs.AnswerLaws.{puts-then}
 use borrow.Author.Needs.{needs}
 use Rattle.lines.proofs.answers.put_format.Statement.{statement}
 use Rattle.lines.proofs.answers.put_format.Tie as tie
-use Rattle.lines.proofs.answers.put_format.Reads as reads
-use Rattle.lines.proofs.answers.put_format.Lts as lts
-use Rattle.lines.proofs.answers.put_numbers.Reads as put-numbers-reads
-use Rattle.lines.proofs.answers.put_word.Reads as put-word-reads
 
 slice-aggregate-put-word : tie.Need-slice-aggregate-put-word
 slice-aggregate-put-word c = search needs

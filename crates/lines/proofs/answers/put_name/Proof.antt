@@ -6,9 +6,6 @@ use Rattle.lines.specs.AnswerLines.{nameOf}
 use borrow.Author.Needs.{needs}
 use Rattle.lines.proofs.answers.put_name.Statement.{statement}
 use Rattle.lines.proofs.answers.put_name.Tie as tie
-use Rattle.lines.proofs.answers.put_name.Reads as reads
-use Rattle.lines.proofs.answers.put_name.Lts as lts
-use Rattle.lines.proofs.answers.put_word.Reads as put-word-reads
 
 enum-told : tie.Need-enum-told
 enum-told c = search needs

@@ -7,9 +7,6 @@ use Rattle.lines.proofs.AnswerLaws.{decimal-short, puts-byte, puts-then
 use borrow.Author.Needs.{needs}
 use Rattle.lines.proofs.answers.put_number.Statement.{statement}
 use Rattle.lines.proofs.answers.put_number.Tie as tie
-use Rattle.lines.proofs.answers.put_number.Reads as reads
-use Rattle.lines.proofs.answers.put_number.Lts as lts
-use Rattle.lines.proofs.answers.put_decimal.Reads as put-decimal-reads
 
 slice-write-out : tie.Need-slice-write-out
 slice-write-out c = search needs

@@ -11,9 +11,6 @@ use Rattle.lines.proofs.AnswerLaws.{decimal-short, blanked, blanked-mor
 use borrow.Author.Needs.{needs}
 use Rattle.lines.proofs.answers.put_numbers.Statement.{statement}
 use Rattle.lines.proofs.answers.put_numbers.Tie as tie
-use Rattle.lines.proofs.answers.put_numbers.Reads as reads
-use Rattle.lines.proofs.answers.put_numbers.Lts as lts
-use Rattle.lines.proofs.answers.put_number.Reads as put-number-reads
 
 abbrev Inv-loop : tie.InvT-loop
 Inv-loop out₀ from numbers at₀ i₀ out at i = ((i ≤ length numbers) × ((length out ≡ length out₀) × (at + (21 * (length numbers - i) + 1) ≤ length out))) × Puts out₀ from (blanked (take i numbers)) out at

@@ -11,8 +11,6 @@ use Rattle.lines.proofs.AnswerLaws.{puts-none, puts-byte, puts-then, pu
 use borrow.Author.Needs.{needs}
 use Rattle.lines.proofs.answers.put_word.Statement.{statement}
 use Rattle.lines.proofs.answers.put_word.Tie as tie
-use Rattle.lines.proofs.answers.put_word.Reads as reads
-use Rattle.lines.proofs.answers.put_word.Lts as lts
 
 abbrev Inv-loop : tie.InvT-loop
 Inv-loop out₀ word i₀ out i = ((i ≤ length word) × (length out ≡ length out₀)) × Puts out₀ 0 (take i word) out i

@@ -7,8 +7,6 @@ use Rattle.lines.proofs.FieldLaws.{Within, within-start, within-on, wit
 use borrow.Author.Needs.{needs}
 use Rattle.lines.proofs.fields.field_end.Statement.{statement}
 use Rattle.lines.proofs.fields.field_end.Tie as tie
-use Rattle.lines.proofs.fields.field_end.Reads as reads
-use Rattle.lines.proofs.fields.field_end.Lts as lts
 
 abbrev Inv-loop : tie.InvT-loop
 Inv-loop line from i₀ i = ((from ≤ i) × (i ≤ length line)) × Within line from i

@@ -4,10 +4,6 @@ use Rattle.lines.proofs.LineLaws.{cuts-from}
 use borrow.Author.Needs.{needs}
 use Rattle.lines.proofs.fields.field_from.Statement.{statement}
 use Rattle.lines.proofs.fields.field_from.Tie as tie
-use Rattle.lines.proofs.fields.field_from.Reads as reads
-use Rattle.lines.proofs.fields.field_from.Lts as lts
-use Rattle.lines.proofs.fields.field_end.Reads as field-end-reads
-use Rattle.lines.proofs.fields.value_of.Reads as value-of-reads
 
 field-end-requires : tie.Need-field-end-requires
 field-end-requires c κs = search needs

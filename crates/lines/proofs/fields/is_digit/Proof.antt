@@ -2,11 +2,8 @@
 -- Assumes nothing.
 use borrow.Author.Tests.{le-leb, lt-leb}
 use Rattle.lines.specs.Fields.{isDigit}
-use borrow.Author.Needs.{needs}
 use Rattle.lines.proofs.fields.is_digit.Statement.{statement}
 use Rattle.lines.proofs.fields.is_digit.Tie as tie
-use Rattle.lines.proofs.fields.is_digit.Reads as reads
-use Rattle.lines.proofs.fields.is_digit.Lts as lts
 
 returns : tie.Need-returns
 unfolding isDigit

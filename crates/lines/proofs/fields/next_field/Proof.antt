@@ -4,9 +4,6 @@ use Rattle.lines.proofs.LineLaws.{cuts-after, cuts-none}
 use borrow.Author.Needs.{needs}
 use Rattle.lines.proofs.fields.next_field.Statement.{statement}
 use Rattle.lines.proofs.fields.next_field.Tie as tie
-use Rattle.lines.proofs.fields.next_field.Reads as reads
-use Rattle.lines.proofs.fields.next_field.Lts as lts
-use Rattle.lines.proofs.fields.field_from.Reads as field-from-reads
 
 add-field-from : tie.Need-add-field-from
 add-field-from c = search needs

@@ -10,9 +10,6 @@ use Rattle.lines.proofs.FieldLaws.{valueFrom, value-empty, value-start,
 use borrow.Author.Needs.{needs}
 use Rattle.lines.proofs.fields.value_of.Statement.{statement}
 use Rattle.lines.proofs.fields.value_of.Tie as tie
-use Rattle.lines.proofs.fields.value_of.Reads as reads
-use Rattle.lines.proofs.fields.value_of.Lts as lts
-use Rattle.lines.proofs.fields.is_digit.Reads as is-digit-reads
 
 abbrev Inv-loop : tie.InvT-loop
 Inv-loop field value₀ i₀ value i = ((i ≤ length field) × (value < 4294967296)) × (valueFrom value (drop i field) ≡ valueOf field)

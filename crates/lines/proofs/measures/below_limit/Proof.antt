@@ -1,11 +1,8 @@
 -- `lines::measures::below_limit` meets its contract.
 -- Assumes nothing.
 use borrow.Author.Tests.{lt-ltb, le-ltb}
-use borrow.Author.Needs.{needs}
 use Rattle.lines.proofs.measures.below_limit.Statement.{statement}
 use Rattle.lines.proofs.measures.below_limit.Tie as tie
-use Rattle.lines.proofs.measures.below_limit.Reads as reads
-use Rattle.lines.proofs.measures.below_limit.Lts as lts
 
 returns : tie.Need-returns
 returns c = simp (le-ltb _ _ (c .if1 .taken))

@@ -8,11 +8,6 @@ use Rattle.lines.proofs.LineLaws.{three, measures-read, measures-not}
 use borrow.Author.Needs.{needs}
 use Rattle.lines.proofs.measures.read_measures.Statement.{statement}
 use Rattle.lines.proofs.measures.read_measures.Tie as tie
-use Rattle.lines.proofs.measures.read_measures.Reads as reads
-use Rattle.lines.proofs.measures.read_measures.Lts as lts
-use Rattle.lines.proofs.fields.field_from.Reads as field-from-reads
-use Rattle.lines.proofs.fields.next_field.Reads as next-field-reads
-use Rattle.lines.proofs.measures.below_limit.Reads as below-limit-reads
 
 field-from-requires : tie.Need-field-from-requires
 field-from-requires c κs = search needs

@@ -9,8 +9,6 @@ use Rattle.lines.proofs.NameLaws.{same-lengths, same-on, same-off, same
 use borrow.Author.Needs.{needs}
 use Rattle.lines.proofs.names.is_name.Statement.{statement}
 use Rattle.lines.proofs.names.is_name.Tie as tie
-use Rattle.lines.proofs.names.is_name.Reads as reads
-use Rattle.lines.proofs.names.is_name.Lts as lts
 
 abbrev Inv-loop : tie.InvT-loop
 Inv-loop s w i₀ i = ((i ≤ length s) × (length s ≡ length w)) × (same (drop i s) (drop i w) ≡ same s w)

@@ -5,10 +5,6 @@ use Rattle.lines.specs.RequestLines.{named}
 use borrow.Author.Needs.{needs}
 use Rattle.lines.proofs.requests.named.Statement.{statement}
 use Rattle.lines.proofs.requests.named.Tie as tie
-use Rattle.lines.proofs.requests.named.Reads as reads
-use Rattle.lines.proofs.requests.named.Lts as lts
-use Rattle.lines.proofs.names.is_name.Reads as is-name-reads
-use Rattle.lines.proofs.requests.write_of.Reads as write-of-reads
 
 slice-aggregate-is-name : tie.Need-slice-aggregate-is-name
 slice-aggregate-is-name c = search needs

@@ -8,11 +8,6 @@ use Rattle.lines.proofs.LineLaws.{cut-first, three, request-read, reque
 use borrow.Author.Needs.{needs}
 use Rattle.lines.proofs.requests.read_request.Statement.{statement}
 use Rattle.lines.proofs.requests.read_request.Tie as tie
-use Rattle.lines.proofs.requests.read_request.Reads as reads
-use Rattle.lines.proofs.requests.read_request.Lts as lts
-use Rattle.lines.proofs.fields.field_end.Reads as field-end-reads
-use Rattle.lines.proofs.fields.next_field.Reads as next-field-reads
-use Rattle.lines.proofs.requests.named.Reads as named-reads
 
 field-end-requires : tie.Need-field-end-requires
 field-end-requires c κs = search needs

@@ -5,8 +5,6 @@ use Rattle.lines.specs.RequestLines.{writeOf}
 use borrow.Author.Needs.{needs}
 use Rattle.lines.proofs.requests.write_of.Statement.{statement}
 use Rattle.lines.proofs.requests.write_of.Tie as tie
-use Rattle.lines.proofs.requests.write_of.Reads as reads
-use Rattle.lines.proofs.requests.write_of.Lts as lts
 
 cast-t5 : tie.Need-cast-t5
 cast-t5 c = search needs

@@ -1,0 +1,46 @@
+-- The bench program's own rules: the geometry of its shelf, the room that it has, the data of a call, and what comes of a request.
+-- Assumes nothing.
+use mathlib.Core.Bool.{Bool, cond, not, _&&_}
+use mathlib.Core.List.{List}
+use mathlib.Core.Path.{_≡_}
+use Prim.Native.Nat.{ℕ, _+_, _*_}
+use lib.Dec.{eqb, leb}
+use lib.ListN.{getD, replicate}
+use Rattle.lines.specs.declared.measures.Measures.{Measures}
+use Rattle.lines.specs.declared.measures.Measures.the-variants.{Six, Unreadable}
+use Rattle.lines.specs.declared.requests.Request.{Request}
+use Rattle.lines.specs.declared.requests.Request.the-variants as Request
+use Rattle.shelf.specs.Status.{start, fail, write, read, resync, rebuild, newLog, fullResync}
+use Rattle.shelf.specs.Lent.{Lent, badMeasures, arrayLength, logLength, listLength, stateOf, readBuffer, Answered}
+use Rattle.shelf.specs.declared.record.Geometry.{Geometry}
+
+-- the geometry that measures say; zeros, which are out of range, where they can't be read
+unfoldable pub geometryOf : Measures → Geometry
+geometryOf (Six d s b l h e) = record { d = d; s = s; b = b; l = l; h = h; e = e }
+geometryOf Unreadable = record { d = 0; s = 0; b = 0; l = 0; h = 0; e = 0 }
+
+-- measures in range, and array, log and list together at most 32,768 bytes
+unfoldable pub fits : Geometry → Bool
+fits g = not (badMeasures g) && leb (arrayLength g + logLength g + listLength g) 32768
+
+-- how many of n bytes are the data of count blocks of b bytes; none where they do not suffice
+unfoldable pub dataLength : ℕ → ℕ → ℕ → ℕ
+dataLength count b n = cond (leb (count * b) n) (count * b) 0
+
+-- the first byte of what a read hands over with this code; 0 where it is refused
+unfoldable pub firstRead : Lent → ℕ → ℕ → ℕ → ℕ
+firstRead h a count code = cond (eqb code 0) (getD (readBuffer (h .shelf .geometry) (stateOf h) a count) 0 0) 0
+
+-- what comes of a request on what is lent, with n bytes for the data of a call: the code, the first byte read (0 if none), and what is left.
+-- The shelf's call is answered; a line that can't be read gets 15 and changes nothing.
+unfoldable pub Performed : Request → ℕ → Lent → ℕ → ℕ → Lent → Type 0
+Performed Request.Start n h code first h′ = Answered h start code h′ × (first ≡ 0)
+Performed (Request.Write a count v) n h code first h′ = Answered h (write a count (replicate (dataLength count (h .shelf .geometry .b) n) v)) code h′ × (first ≡ 0)
+Performed (Request.Read a count) n h code first h′ =
+    Answered h (read a count (dataLength count (h .shelf .geometry .b) n)) code h′ × (first ≡ firstRead h a count code)
+Performed (Request.Fail j) n h code first h′ = Answered h (fail j) code h′ × (first ≡ 0)
+Performed Request.Resync n h code first h′ = Answered h resync code h′ × (first ≡ 0)
+Performed Request.Rebuild n h code first h′ = Answered h rebuild code h′ × (first ≡ 0)
+Performed Request.NewLog n h code first h′ = Answered h newLog code h′ × (first ≡ 0)
+Performed Request.FullResync n h code first h′ = Answered h fullResync code h′ × (first ≡ 0)
+Performed Request.Unreadable n h code first h′ = (code ≡ 15) × ((first ≡ 0) × (h′ ≡ h))
