@@ -1,8 +1,10 @@
-//! The tests of the library. Each group calls the archives and compares what they answer and store with
-//! published values, or with arithmetic that shares nothing with the library. A line is printed for each group; the
-//! program stops at the first failure, with status 1. Arguments name the groups that are to run; all do without any.
+//! The tests of the library. Each group calls the archives, or runs the bench program, and compares what they answer,
+//! store and write with published values, or with arithmetic that shares nothing with the library. A line is printed for
+//! each group; the program stops at the first failure, with status 1. Arguments name the groups that are to run; all do
+//! without any.
 
 mod arrays;
+mod bench;
 mod calls;
 mod examples;
 mod field;
@@ -25,7 +27,7 @@ pub type Outcome = Result<String, String>;
 type Group = fn(u64) -> Outcome;
 
 /// The groups in the order in which they run.
-const GROUPS: [(&str, Group); 15] = [
+const GROUPS: [(&str, Group); 16] = [
     ("field", field::group),
     ("products", products::group),
     ("examples", examples::group),
@@ -41,6 +43,7 @@ const GROUPS: [(&str, Group); 15] = [
     ("walks", shelf::walks::group),
     ("sequences", shelf::sequences::group),
     ("limits", shelf::limits::group),
+    ("bench program", bench::group),
 ];
 
 /// Runs the groups that are named, or all, one after another, up to the first that fails.

@@ -105,6 +105,21 @@ pub enum Call {
 pub type Lent = [(*mut u8, usize); 4];
 
 impl Call {
+    /// The call that has this name in the customer's sessions, with the first two values there; none if none has it.
+    pub fn named(name: &str, first: usize, second: usize) -> Option<Call> {
+        Some(match name {
+            "start" => Call::Start,
+            "write" => Call::Write { address: first, count: second },
+            "read" => Call::Read { address: first, count: second },
+            "fail" => Call::Fail(first),
+            "resync" => Call::Resync,
+            "rebuild" => Call::Rebuild,
+            "newlog" => Call::NewLog,
+            "full" => Call::FullResync,
+            _ => return None,
+        })
+    }
+
     /// Makes the call; hands back the number, the stripe that resync tells, and the record.
     ///
     /// # Safety

@@ -1,19 +1,19 @@
 //! The tests of the shelf.
 
 mod book;
-mod calls;
+pub mod calls;
 mod conditions;
-mod due;
-mod events;
+pub mod due;
+pub mod events;
 pub mod limits;
-mod lists;
+pub mod lists;
 pub mod marked;
-mod model;
+pub mod model;
 mod pair;
 pub mod printed;
 pub mod random;
 mod records;
-mod requests;
+pub mod requests;
 mod script;
 pub mod sequences;
 pub mod sessions;
@@ -21,4 +21,4 @@ mod stand;
 mod tally;
 pub mod tiny;
 pub mod walks;
-mod works;
+pub mod works;

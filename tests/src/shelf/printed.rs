@@ -5,7 +5,7 @@ use super::stand::Stand;
 use crate::Outcome;
 
 /// The input.
-const INPUT: &str = "\
+pub const INPUT: &str = "\
 data stripes block log slots places
 3 2 1 4 2 4
 call a b c
@@ -22,7 +22,7 @@ fail 6 0 0
 ";
 
 /// The output.
-const OUTPUT: &str = "\
+pub const OUTPUT: &str = "\
 call code mode listed next first
 format 0 0 0 0 0
 start 0 1 0 0 0
@@ -52,16 +52,11 @@ fn call(line: &str, b: usize) -> Result<(&str, Call, Vec<u8>), String> {
     let [x, count, fill] = numbers(fields)?[..] else {
         return Err(format!("{line} has not three numbers"));
     };
-    let (call, data) = match name {
-        "start" => (Call::Start, Vec::new()),
-        "fail" => (Call::Fail(x), Vec::new()),
-        "newlog" => (Call::NewLog, Vec::new()),
-        "write" => (Call::Write { address: x, count }, vec![fill as u8; count * b]),
-        "read" => (Call::Read { address: x, count }, vec![0; count * b]),
-        "resync" => (Call::Resync, Vec::new()),
-        "rebuild" => (Call::Rebuild, Vec::new()),
-        "full" => (Call::FullResync, Vec::new()),
-        _ => return Err(format!("there is no call {name}")),
+    let call = Call::named(name, x, count).ok_or_else(|| format!("there is no call {name}"))?;
+    let data = match call {
+        Call::Write { .. } => vec![fill as u8; count * b],
+        Call::Read { .. } => vec![0; count * b],
+        _ => Vec::new(),
     };
     Ok((name, call, data))
 }

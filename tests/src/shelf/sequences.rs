@@ -39,7 +39,7 @@ fn block_size(random: &mut Random) -> usize {
 }
 
 /// Random measures: a log and a list with room for one block, for a stripe, for some, or for all.
-fn measures(random: &mut Random) -> Measures {
+pub fn measures(random: &mut Random) -> Measures {
     let b = block_size(random);
     let d = 2 + pick(if random.below(3) == 0 { 15 } else { 4 }, random);
     let most = if b > 100 { 2 } else { 1 + [1, 2, 4, 12, 40][pick(5, random)] };
@@ -85,7 +85,7 @@ fn request(shelf: &Shelf, random: &mut Random) -> Request {
 }
 
 /// The next call, with the caller's data.
-fn next_call(shelf: &Shelf, busy: bool, random: &mut Random) -> (Call, Buffer) {
+pub fn next_call(shelf: &Shelf, busy: bool, random: &mut Random) -> (Call, Buffer) {
     let (m, weights) = (shelf.record.measures, weights(&shelf.record, busy));
     let (mut at, mut left) = (0, random.below(weights.iter().sum()));
     while left >= weights[at] {

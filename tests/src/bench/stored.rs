@@ -1,0 +1,147 @@
+//! The customer's session and marked examples as sessions of the bench program, with the lines that it must write
+//! worked out by hand. Blocks have one byte, so that a read shows a block. The model is not asked.
+
+use super::inputs::NAMES;
+use super::model::COLUMNS;
+use crate::shelf::printed::{INPUT, OUTPUT};
+
+/// A session: what it shows, the measures, and each call line with the line that is due for it.
+type Session = (&'static str, &'static str, &'static [(&'static str, &'static str)]);
+
+/// The sessions of K4 to K13.
+const SESSIONS: [Session; 9] = [
+    ("K4 and K5", "3 1 1 4 2 3", &K4_K5),
+    ("K4 with the parity made afresh", "3 1 1 4 2 3", &K4_REBUILT),
+    ("K6 and K7", "2 1 1 4 2 3", &K6_K7),
+    ("K8", "3 1 1 4 2 3", &K8),
+    ("K9", "3 1 1 4 2 3", &K9),
+    ("K10", "3 2 1 4 2 4", &K10),
+    ("K11", "3 2 1 4 2 4", &K11),
+    ("K12", "3 1 1 3 2 3", &K12),
+    ("K13", "2 1 1 2 1 1", &K13),
+];
+
+/// Data 1, 2, 3; blocks 0 and 1 come back from block 2, P and Q.
+const K4_K5: [(&str, &str); 9] = [
+    ("write 0 1 1", "write 0 0 0 0 0"),
+    ("write 1 1 2", "write 0 0 0 0 0"),
+    ("write 2 1 3", "write 0 0 0 0 0"),
+    ("fail 0 0 0", "fail 0 0 0 0 0"),
+    ("fail 1 0 0", "fail 0 0 0 0 0"),
+    ("read 0 1 0", "read 0 0 0 0 1"),
+    ("read 1 1 0", "read 0 0 0 0 2"),
+    ("read 2 1 0", "read 0 0 0 0 3"),
+    ("read 0 3 0", "read 0 0 0 0 1"),
+];
+
+/// The same data with P and Q lost and made afresh; then block 2 comes back from Q without P, and block 1 from P
+/// without Q.
+const K4_REBUILT: [(&str, &str); 13] = [
+    ("write 0 1 1", "write 0 0 0 0 0"),
+    ("write 1 1 2", "write 0 0 0 0 0"),
+    ("write 2 1 3", "write 0 0 0 0 0"),
+    ("fail 3 0 0", "fail 0 0 0 0 0"),
+    ("fail 4 0 0", "fail 0 0 0 0 0"),
+    ("rebuild 0 0 0", "rebuild 0 0 0 0 0"),
+    ("fail 2 0 0", "fail 0 0 0 0 0"),
+    ("fail 3 0 0", "fail 0 0 0 0 0"),
+    ("read 2 1 0", "read 0 0 0 0 3"),
+    ("rebuild 0 0 0", "rebuild 0 0 0 0 0"),
+    ("fail 1 0 0", "fail 0 0 0 0 0"),
+    ("fail 4 0 0", "fail 0 0 0 0 0"),
+    ("read 1 1 0", "read 0 0 0 0 2"),
+];
+
+/// Data 128, 128; block 0 and P come back from block 1 and Q, and P is then right: block 1 comes back from it.
+const K6_K7: [(&str, &str); 10] = [
+    ("write 0 2 128", "write 0 0 0 0 0"),
+    ("fail 0 0 0", "fail 0 0 0 0 0"),
+    ("fail 2 0 0", "fail 0 0 0 0 0"),
+    ("read 0 1 0", "read 0 0 0 0 128"),
+    ("read 1 1 0", "read 0 0 0 0 128"),
+    ("rebuild 0 0 0", "rebuild 0 0 0 0 0"),
+    ("fail 1 0 0", "fail 0 0 0 0 0"),
+    ("fail 3 0 0", "fail 0 0 0 0 0"),
+    ("read 1 1 0", "read 0 0 0 0 128"),
+    ("fail 0 0 0", "fail 11 0 0 0 0"),
+];
+
+/// K4's stripe, block 1 logged as 7, disks 0 and 1 gone: a read gives 1 and 7.
+const K8: [(&str, &str); 9] = [
+    ("write 0 1 1", "write 0 0 0 0 0"),
+    ("write 1 1 2", "write 0 0 0 0 0"),
+    ("write 2 1 3", "write 0 0 0 0 0"),
+    ("start 0 0 0", "start 0 1 0 0 0"),
+    ("write 1 1 7", "write 0 1 1 2 0"),
+    ("fail 0 0 0", "fail 0 1 1 2 0"),
+    ("fail 1 0 0", "fail 0 1 1 2 0"),
+    ("read 0 1 0", "read 0 1 1 2 1"),
+    ("read 1 1 0", "read 0 1 1 2 7"),
+];
+
+/// The same with the log and disk 0 gone: block 0 is refused with 14, block 2 reads 3.
+const K9: [(&str, &str); 9] = [
+    ("write 0 1 1", "write 0 0 0 0 0"),
+    ("write 1 1 2", "write 0 0 0 0 0"),
+    ("write 2 1 3", "write 0 0 0 0 0"),
+    ("start 0 0 0", "start 0 1 0 0 0"),
+    ("write 1 1 7", "write 0 1 1 2 0"),
+    ("fail 5 0 0", "fail 0 2 1 2 0"),
+    ("fail 0 0 0", "fail 0 2 1 2 0"),
+    ("read 0 1 0", "read 14 2 1 2 0"),
+    ("read 2 1 0", "read 0 2 1 2 3"),
+];
+
+/// Address 4 is stripe 1, index 1: logged and without the log and disk 1 it is withheld. Block 1, on the same disk in
+/// stripe 0, is not, nor are blocks 3 and 5, in the same stripe on other disks.
+const K10: [(&str, &str); 9] = [
+    ("write 1 1 6", "write 0 0 0 0 0"),
+    ("start 0 0 0", "start 0 1 0 0 0"),
+    ("write 4 1 5", "write 0 1 1 2 0"),
+    ("fail 5 0 0", "fail 0 2 1 2 0"),
+    ("fail 1 0 0", "fail 0 2 1 2 0"),
+    ("read 4 1 0", "read 14 2 1 2 0"),
+    ("read 1 1 0", "read 0 2 1 2 6"),
+    ("read 3 1 0", "read 0 2 1 2 0"),
+    ("read 5 1 0", "read 0 2 1 2 0"),
+];
+
+/// Of six blocks address 5 count 1 passes, address 6 count 1 is 4.
+const K11: [(&str, &str); 6] = [
+    ("write 5 1 9", "write 0 0 0 0 0"),
+    ("write 6 1 8", "write 4 0 0 0 0"),
+    ("read 5 1 0", "read 0 0 0 0 9"),
+    ("read 6 1 0", "read 4 0 0 0 0"),
+    ("read 5 2 0", "read 4 0 0 0 0"),
+    ("read 5 0 0", "read 4 0 0 0 0"),
+];
+
+/// Blocks 0 and 1 of three written: reconstruction-write, 3 records, 3 listed.
+const K12: [(&str, &str); 3] =
+    [("start 0 0 0", "start 0 1 0 0 0"), ("write 0 2 5", "write 0 1 3 3 0"), ("resync 0 0 0", "resync 0 0 0 0 0")];
+
+/// Block 0 of two written: read-modify-write, 2 records, 1 listed.
+const K13: [(&str, &str); 3] =
+    [("start 0 0 0", "start 0 1 0 0 0"), ("write 0 1 7", "write 0 1 1 2 0"), ("resync 0 0 0", "resync 0 0 0 0 0")];
+
+/// A stored input with what it shows and the lines that are due.
+pub struct Stored {
+    pub name: &'static str,
+    pub input: String,
+    pub output: Vec<String>,
+}
+
+/// The input and the output of a session.
+fn stored(&(name, measures, steps): &Session) -> Stored {
+    let (calls, due): (Vec<&str>, Vec<&str>) = steps.iter().copied().unzip();
+    let input = [&[NAMES[0], measures, NAMES[1]], &calls[..], &[""]].concat().join("\n");
+    let output = [COLUMNS, "format 0 0 0 0 0"].into_iter().chain(due).map(String::from).collect();
+    Stored { name, input, output }
+}
+
+/// The customer's session as it is printed, and those of the marked examples.
+pub fn all() -> Vec<Stored> {
+    let output = OUTPUT.lines().map(String::from).collect();
+    let printed = Stored { name: "the printed session", input: INPUT.into(), output };
+    [printed].into_iter().chain(SESSIONS.iter().map(stored)).collect()
+}
