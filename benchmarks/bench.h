@@ -3,24 +3,42 @@
 #ifndef BENCH_H
 #define BENCH_H
 
+#include "shelf.h"
+
 #include <stdbool.h>
 #include <stddef.h>
 #include <stdint.h>
 
 #define SEED 285u
-#define ARRAY_BYTES ((size_t)16 << 20) /* the most that an array takes, P and Q counted */
+#define DATA_BYTES ((size_t)16 << 20) /* the data blocks of an array, rounded up to a whole stripe */
 
-enum { MOST_DATA = 16, MOST_VARIANTS = 6, MOST_ROUNDS = 200 };
+enum { MOST_DATA = 16, MOST_VARIANTS = 9, MOST_ROUNDS = 200 };
 
-enum work { PARITY, ONE_BLOCK, TWO_BLOCKS, ALL_STRIPES, WORKS };
+/* A stripe's works, those of a shelf over its whole array, and those of a shelf with blocks listed. */
+enum work {
+    PARITY, ONE_BLOCK, TWO_BLOCKS, ALL_STRIPES,
+    WRITE, READ, READ_ONE, READ_TWO, REBUILD_ONE, REBUILD_TWO, REBUILD_PARITY, FULL_RESYNC,
+    LOG_AGAIN, LOG_NEW, RESYNC,
+    WORKS,
+    SHELF_WORKS = WRITE, LIST_WORKS = LOG_AGAIN /* the first of a kind */
+};
 
 struct job {
     enum work work;
     uint32_t d, b, s; /* data blocks in a stripe, bytes in a block, stripes */
-    uint32_t x, y;    /* the members to recover; the same one twice counts once */
+    uint32_t x, y;    /* the members that are made or have failed; the same one twice counts once */
     size_t len;       /* (d + 2) * s * b */
     uint8_t *bytes;   /* a stripe (data, P, Q), or an array kept by member */
-    uint8_t *copy;    /* where memcpy puts the data */
+    uint8_t *copy;    /* where memcpy and a read put the data */
+
+    /* Of an array: the data blocks in the order of their addresses, the record, the log, the list. */
+    uint8_t *data, *log, *list;
+    struct shelf_record record;
+
+    /* With blocks listed: how many, the list as it is before each call, the block that is written. */
+    uint32_t listed;
+    uint8_t *list_before;
+    size_t address;
 };
 
 typedef void call_of_job(const struct job *job);
@@ -31,7 +49,7 @@ struct variant {
     call_of_job *call[WORKS]; /* null: it has no call for this work */
 };
 
-/* A line of the table: a job, what its bytes must be after each call, and for each variant how many
+/* A line of a table: a job, what its bytes must be after each call, and for each variant how many
    calls fill a slice and what a call took in each round, in nanoseconds. */
 struct line {
     struct job job;
@@ -40,15 +58,48 @@ struct line {
     double times[MOST_VARIANTS][MOST_ROUNDS];
 };
 
-/* The variants (variants.c): this library first, then the one that results are held to, memcpy
-   last. */
+/* The variants (variants.c): this library first, then the one that results are held to, then the
+   other peers. The last is a call that only tests the list. */
 extern const struct variant variants[];
 extern const unsigned variant_count;
 
+/* The timing (bench.c). turn_to comes before a job's calls; run_batch makes calls of a variant and
+   answers what they took, in nanoseconds. */
+uint64_t next_random(void);
+void turn_to(const struct job *job);
+double run_batch(const struct variant *v, const struct job *job, uint64_t calls);
+
+/* The lines (jobs.c): by work, then by measures, and those with blocks listed by their number at
+   last. They are made, and each variant's results compared with what they must be. */
+enum { MEASURES = 4, COUNTS = 3 };
+enum { LIST_LINES = LIST_WORKS * MEASURES, LINES = LIST_LINES + (WORKS - LIST_WORKS) * MEASURES * COUNTS };
+extern struct line lines[LINES];
+extern const uint32_t counts[COUNTS];
+void make_lines(void);
+void check(const struct line *line);
+void compare(const struct line *line, const char *who);
+
 /* The report (report.c). fail ends the program with an error. */
 void fail(const struct job *job, const char *who, const char *what);
-void print_terms(unsigned rounds);
-void print_table(const struct line *lines, unsigned count, unsigned rounds);
+void print_report(unsigned rounds);
+
+/* The shelf (shelf.c): what it is lent beside the array, and this library's calls. The log has
+   records for the originals and the latest values of all that can be listed, and those of one write
+   more. format and start change the job's record; log_block hands back the record after it. */
+enum { SLOTS = 256, PLACES = 4096, LOG_RECORDS = 2 * PLACES + 2 };
+enum { LIST_BYTES = 4 * SLOTS + 16 * PLACES };
+void format(struct job *job);
+void start(struct job *job);
+void set_list(const struct job *job);
+struct shelf_record log_block(const struct job *job, size_t address);
+void read_block(const struct job *job, struct shelf_record record, size_t address, uint8_t *to);
+call_of_job ours_write, ours_read, ours_read_lost, ours_rebuild, ours_full_resync, ours_log, ours_resync, ours_test;
+
+/* Blocks copied by C (copies.c): block address of an array, a stripe from the data to the array, and
+   all blocks from the array to the copy. */
+uint8_t *block_at(const struct job *job, size_t address);
+void put_stripe(const struct job *job, uint32_t t);
+call_of_job copy_data, copy_blocks;
 
 /* The C rows (rows.c): blocks of b bytes, each stride bytes after the one before it. init comes
    before the others. They are there twice, with the doubling written in two ways. */
@@ -60,9 +111,12 @@ struct rows {
 };
 extern const struct rows plain_rows, mask_rows;
 
-/* ISA-L (isal.c), linked only where it is installed. isal_prepare comes before a job's calls. */
+/* ISA-L (isal.c), linked only where it is installed: each call by the code that ISA-L chooses and by
+   that for SSE. isal_prepare comes before a job's calls. */
 const char *isal_version(void);
 void isal_prepare(const struct job *job);
-call_of_job isal_pq, isal_pq_all, isal_xor, isal_encode;
+call_of_job isal_pq, isal_pq_all, isal_xor, isal_xor_all, isal_encode, isal_encode_all, isal_write;
+call_of_job isal_sse_pq, isal_sse_pq_all, isal_sse_xor, isal_sse_xor_all, isal_sse_encode, isal_sse_encode_all,
+    isal_sse_write;
 
 #endif

@@ -1,15 +1,22 @@
 /* The peer ISA-L: pq_gen, xor_gen, and ec_encode_data over tables that are built before the timing.
-   The results go to the job's own bytes, where the other variants put theirs. */
+   The results go where the other variants put theirs. Each call is there twice, by the code that
+   ISA-L chooses for the processor and by that for SSE. */
 #include "bench.h"
 
 #include <isa-l.h>
+#include <string.h>
 
 #define TEXT_OF(v) #v
 #define TEXT(v) TEXT_OF(v)
 
-static void *members[MOST_DATA + 2];          /* pq_gen: data, P, Q */
-static uint8_t *sources[MOST_DATA + 1];       /* xor_gen and ec_encode_data: what is there; then the target */
-static uint8_t *targets[2];               /* ec_encode_data: what is made */
+/* The blocks of the job's first stripe. */
+struct places {
+    void *members[MOST_DATA + 2];     /* pq_gen: data, P, Q */
+    uint8_t *sources[MOST_DATA + 1];  /* xor_gen and ec_encode_data: what is there; then the target */
+    uint8_t *targets[2];              /* ec_encode_data: what is made */
+};
+
+static struct places at;
 static uint8_t coefficients[2 * MOST_DATA];   /* a row for each target */
 static uint8_t tables[32 * 2 * MOST_DATA];    /* what ec_encode_data reads for them */
 static int target_count;
@@ -33,12 +40,10 @@ static uint8_t power(uint32_t n)
 static void prepare_parity(const struct job *job)
 {
     for (uint32_t i = 0; i < job->d; i++) {
-        sources[i] = members[i];
+        at.sources[i] = at.members[i];
         coefficients[i] = 1;
         coefficients[job->d + i] = power(i);
     }
-    targets[0] = members[job->d];
-    targets[1] = members[job->d + 1];
     target_count = 2;
 }
 
@@ -49,16 +54,16 @@ static void prepare_one(const struct job *job)
     for (uint32_t i = 0; i <= job->d; i++) {
         if (i == job->x)
             continue;
-        sources[k] = members[i];
+        at.sources[k] = at.members[i];
         coefficients[k++] = 1;
     }
-    sources[k] = targets[0] = members[job->x];
+    at.sources[k] = at.targets[0];
     target_count = 1;
 }
 
 /* Two data blocks from the others, P and Q. With g for 2 to the power y - x, a for g / (g + 1) and
    c for 2 to the power -x over g + 1, and P', Q' the sums of P, Q and the others' parts of them:
-   block x is a * P' + c * Q', and block y is P' plus block x. */
+   block x is a * P' + c * Q', and block y is P' plus block x. A read makes x alone. */
 static void prepare_two(const struct job *job)
 {
     uint32_t d = job->d, k = 0;
@@ -69,57 +74,84 @@ static void prepare_two(const struct job *job)
             continue;
         uint8_t in_p = i <= d, in_q = i < d ? power(i) : i == d + 1;
         uint8_t to_x = (uint8_t)(gf_mul(a, in_p) ^ gf_mul(c, in_q));
-        sources[k] = members[i];
+        at.sources[k] = at.members[i];
         coefficients[k] = to_x;
         coefficients[d + k++] = to_x ^ in_p;
     }
-    targets[0] = members[job->x];
-    targets[1] = members[job->y];
-    target_count = 2;
+    target_count = job->work == READ_TWO ? 1 : 2;
 }
 
 /* Sets the pointers and builds the tables for a job. */
 void isal_prepare(const struct job *job)
 {
+    bool reads = job->work == READ_ONE || job->work == READ_TWO;
     for (uint32_t i = 0; i < job->d + 2; i++)
-        members[i] = job->bytes + (size_t)i * job->s * job->b;
-    if (job->work == ONE_BLOCK)
+        at.members[i] = job->bytes + (size_t)i * job->s * job->b;
+    at.targets[0] = reads ? job->copy : at.members[job->x];
+    at.targets[1] = at.members[job->y];
+    if (job->x == job->y)
         prepare_one(job);
-    else if (job->work == TWO_BLOCKS)
+    else if (job->x < job->d)
         prepare_two(job);
     else
         prepare_parity(job);
     ec_init_tables((int)job->d, target_count, coefficients, tables);
 }
 
-/* P and Q of one stripe. */
-void isal_pq(const struct job *job)
+/* Goes to the blocks of the next stripe. */
+static void advance(struct places *to, const struct job *job)
 {
-    pq_gen((int)job->d + 2, (int)job->b, members);
+    for (uint32_t i = 0; i < job->d + 2; i++)
+        to->members[i] = (uint8_t *)to->members[i] + job->b;
+    for (uint32_t i = 0; i < job->d + 1; i++)
+        to->sources[i] += job->b;
+    to->targets[0] += job->b;
+    to->targets[1] += job->b;
 }
 
-/* P and Q of every stripe of an array kept by member, stripe by stripe. */
-void isal_pq_all(const struct job *job)
-{
-    void *blocks[MOST_DATA + 2];
-    uint32_t count = job->d + 2;
-    for (uint32_t i = 0; i < count; i++)
-        blocks[i] = members[i];
-    for (uint32_t t = 0; t < job->s; t++) {
-        pq_gen((int)count, (int)job->b, blocks);
-        for (uint32_t i = 0; i < count; i++)
-            blocks[i] = (uint8_t *)blocks[i] + job->b;
+/* The calls of a set of ISA-L's functions: P and Q of one stripe; one data block as the xor of the
+   others and P; the targets of the job, P and Q or the missing blocks, by the prepared tables; each
+   of them in every stripe of an array kept by member, stripe by stripe; and each stripe's data put
+   in the array before its P and Q are made. */
+#define CALLS_OF(set, pq, xor, encode)                                                             \
+    void set##_pq(const struct job *job)                                                           \
+    {                                                                                              \
+        pq((int)job->d + 2, (int)job->b, at.members);                                              \
+    }                                                                                              \
+    void set##_xor(const struct job *job)                                                          \
+    {                                                                                              \
+        xor((int)job->d + 1, (int)job->b, (void **)at.sources);                                    \
+    }                                                                                              \
+    void set##_encode(const struct job *job)                                                       \
+    {                                                                                              \
+        encode((int)job->b, (int)job->d, target_count, tables, at.sources, at.targets);            \
+    }                                                                                              \
+    void set##_pq_all(const struct job *job)                                                       \
+    {                                                                                              \
+        struct places now = at;                                                                    \
+        for (uint32_t t = 0; t < job->s; t++, advance(&now, job))                                  \
+            pq((int)job->d + 2, (int)job->b, now.members);                                         \
+    }                                                                                              \
+    void set##_xor_all(const struct job *job)                                                      \
+    {                                                                                              \
+        struct places now = at;                                                                    \
+        for (uint32_t t = 0; t < job->s; t++, advance(&now, job))                                  \
+            xor((int)job->d + 1, (int)job->b, (void **)now.sources);                               \
+    }                                                                                              \
+    void set##_encode_all(const struct job *job)                                                   \
+    {                                                                                              \
+        struct places now = at;                                                                    \
+        for (uint32_t t = 0; t < job->s; t++, advance(&now, job))                                  \
+            encode((int)job->b, (int)job->d, target_count, tables, now.sources, now.targets);      \
+    }                                                                                              \
+    void set##_write(const struct job *job)                                                        \
+    {                                                                                              \
+        struct places now = at;                                                                    \
+        for (uint32_t t = 0; t < job->s; t++, advance(&now, job)) {                                \
+            put_stripe(job, t);                                                                    \
+            pq((int)job->d + 2, (int)job->b, now.members);                                         \
+        }                                                                                          \
     }
-}
 
-/* One data block as the xor of the others and P. */
-void isal_xor(const struct job *job)
-{
-    xor_gen((int)job->d + 1, (int)job->b, (void **)sources);
-}
-
-/* The targets of the job, P and Q or the missing blocks, by the prepared tables. */
-void isal_encode(const struct job *job)
-{
-    ec_encode_data((int)job->b, (int)job->d, target_count, tables, sources, targets);
-}
+CALLS_OF(isal, pq_gen, xor_gen, ec_encode_data)
+CALLS_OF(isal_sse, pq_gen_sse, xor_gen_sse, ec_encode_data_sse)

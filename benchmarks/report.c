@@ -1,4 +1,4 @@
-/* What the benchmark prints: the terms of the measurement, then the table of ratios in Markdown. */
+/* What the benchmark prints: the terms of the measurement, then the tables of ratios in Markdown. */
 #include "bench.h"
 
 #include <stdio.h>
@@ -6,11 +6,24 @@
 #include <string.h>
 
 static const char *const titles[WORKS] = {
-    "parity of a stripe",
-    "one data block recovered",
-    "two data blocks recovered",
-    "parity of a 16 MB array",
+    [PARITY] = "parity of a stripe",
+    [ONE_BLOCK] = "one data block recovered",
+    [TWO_BLOCKS] = "two data blocks recovered",
+    [ALL_STRIPES] = "parity of an array",
+    [WRITE] = "`shelf_write` of all blocks, mode 0",
+    [READ] = "`shelf_read` of all blocks, disks sound",
+    [READ_ONE] = "`shelf_read` of a lost block, one disk out",
+    [READ_TWO] = "`shelf_read` of a lost block, two disks out",
+    [REBUILD_ONE] = "`shelf_rebuild` of one data disk",
+    [REBUILD_TWO] = "`shelf_rebuild` of two data disks",
+    [REBUILD_PARITY] = "`shelf_rebuild` of P and Q",
+    [FULL_RESYNC] = "`shelf_full_resync`",
+    [LOG_AGAIN] = "`shelf_write` of a block that is listed",
+    [LOG_NEW] = "`shelf_write` of a block that is not",
+    [RESYNC] = "`shelf_resync`",
 };
+
+static double least_part = 1, most_part = 1; /* how far ratios go from those shown, with other load */
 
 /* Ends the program with an error. */
 void fail(const struct job *job, const char *who, const char *what)
@@ -42,12 +55,6 @@ static double speed(const struct line *line, unsigned v, unsigned rounds)
     return (double)line->job.d * line->job.s * line->job.b / clear_time(line, v, rounds);
 }
 
-/* This library's speed as a multiple of a peer's. */
-static double ratio(const struct line *line, unsigned v, unsigned rounds)
-{
-    return clear_time(line, v, rounds) / clear_time(line, 0, rounds);
-}
-
 /* The same with the machine's other load: the median of the ratios within each round. */
 static double loaded_ratio(const struct line *line, unsigned v, unsigned rounds)
 {
@@ -56,6 +63,16 @@ static double loaded_ratio(const struct line *line, unsigned v, unsigned rounds)
         ratios[round] = line->times[v][round] / line->times[0][round];
     qsort(ratios, rounds, sizeof ratios[0], rising);
     return ratios[rounds / 2];
+}
+
+/* This library's speed as a multiple of a peer's; how far it is another with other load is noted. */
+static double ratio(const struct line *line, unsigned v, unsigned rounds)
+{
+    double clear = clear_time(line, v, rounds) / clear_time(line, 0, rounds);
+    double part = loaded_ratio(line, v, rounds) / clear;
+    least_part = part < least_part ? part : least_part;
+    most_part = part > most_part ? part : most_part;
+    return clear;
 }
 
 /* Prints the processor's name, as the kernel gives it. */
@@ -74,62 +91,128 @@ static void print_processor(void)
         printf("- Processor: %s", name + 2);
 }
 
-/* Prints what was measured and what the numbers mean. */
-void print_terms(unsigned rounds)
+/* Prints who is compared with whom. */
+static void print_variants(void)
 {
-    print_processor();
-    printf("- Variants: this library (libstripe.a, libprobe.a); ");
+    printf("- Variants: this library (libstripe.a, libprobe.a, libshelf.a); ");
 #ifdef WITH_ISAL
-    printf("ISA-L %s; ", isal_version());
+    printf("ISA-L %s, by the code that it chooses for the processor and by that for SSE, the width that this"
+           " library is compiled for; ", isal_version());
 #else
     printf("no ISA-L, which is not installed; ");
 #endif
     printf("rows in plain C (gcc %s -O3), with the doubling as this library writes it and by shift and"
-           " mask (the same code where one block is recovered); memcpy of the data blocks (it stores d"
-           " blocks where parity stores two).\n", __VERSION__);
+           " mask (the same code where one block is recovered); memcpy.\n", __VERSION__);
+}
+
+/* Prints what was measured and what the numbers mean. */
+static void print_terms(unsigned rounds)
+{
+    print_processor();
+    print_variants();
     printf("- Seed %u. Before the timing every result was compared byte for byte with that of %s.\n", SEED,
            strncmp(variants[1].name, "ISA-L", 5) == 0 ? "ISA-L" : variants[1].name);
     printf("- GB/s: 10^9 bytes of data blocks (d x B a stripe, in recovery too) in a second, by the time that a"
            " tenth of %u rounds stay below; the rest shows what else runs on the processor.\n", rounds);
     printf("- Against a peer: this library's speed as a multiple of the peer's; in brackets the peer's GB/s.\n");
-    printf("- Stripe and recovery: one stripe, in cache, the same for all variants. In recovery the"
-           " missing blocks are not cleared between calls.\n");
-    printf("- Array: %zu MiB with P and Q, kept by member, the same for all variants; P and Q of all"
-           " stripes are made in place.\n\n", ARRAY_BYTES >> 20);
 }
 
-/* Prints the heading of the table. */
-static void print_heading(void)
+/* Prints what the two tables of ratios are about. */
+static void print_stripe_terms(void)
 {
+    printf("- Stripe and recovery: one stripe, in cache, the same for all variants. In recovery the"
+           " missing blocks are not cleared between calls. memcpy copies the data blocks: it stores d blocks where"
+           " parity stores two.\n");
+    printf("- Array: %zu MiB of data blocks, kept by member, the same for all variants; P and Q of all"
+           " stripes are made in place.\n\n", DATA_BYTES >> 20);
+}
+
+/* The same of the shelf. */
+static void print_shelf_terms(void)
+{
+    printf("\nThe shelf's calls over an array of %zu MiB of data blocks, nothing listed. The peers do the same work"
+           " on the same array, stripe by stripe: for a write, memcpy of each block and then pq_gen; for a read, memcpy"
+           " by block; for the rest, what is named. A read of lost blocks is a call for each block of one disk.\n\n",
+           DATA_BYTES >> 20);
+}
+
+/* The same of the calls with blocks listed. */
+static void print_list_terms(void)
+{
+    printf("\nA call in mode 1 with blocks listed, in µs; in brackets, how many times as long it takes as a call that"
+           " only tests the list (`shelf_start`, refused with 7), in the same state. The list has %d slots and %d"
+           " places; it is set back before each call, which does not count. A write is of one block, which is logged;"
+           " if the block is not listed before it, it is the last of those counted.\n\n", SLOTS, PLACES);
+}
+
+/* Whether a variant has a call for one of some lines. */
+static bool takes_part(unsigned v, const struct line *from, const struct line *end)
+{
+    for (const struct line *line = from; line < end; line++)
+        if (variants[v].call[line->job.work] != NULL)
+            return true;
+    return false;
+}
+
+/* Prints the heading of a table, a column for each variant that takes part. */
+static void print_heading(const struct line *from, const struct line *end)
+{
+    unsigned columns = 3;
     printf("| work | d | B | %s, GB/s |", variants[0].name);
     for (unsigned v = 1; v < variant_count; v++)
-        printf(" against %s |", variants[v].name);
-    printf("\n|---|---|---|---|");
-    for (unsigned v = 1; v < variant_count; v++)
+        if (takes_part(v, from, end)) {
+            printf(" against %s |", variants[v].name);
+            columns++;
+        }
+    printf("\n|");
+    while (columns-- > 0)
         printf("---|");
-    printf("\n");
+    printf("---|\n");
 }
 
-/* Prints the table, and below it how the ratios are with the machine's other load. */
-void print_table(const struct line *lines, unsigned count, unsigned rounds)
+/* Prints a table of speeds and ratios. */
+static void print_table(const struct line *from, const struct line *end, unsigned rounds)
 {
-    double least = 1, most = 1;
-    print_heading();
-    for (const struct line *line = lines; line < lines + count; line++) {
+    print_heading(from, end);
+    for (const struct line *line = from; line < end; line++) {
         const struct job *job = &line->job;
         printf("| %s | %u | %u | %.1f |", titles[job->work], job->d, job->b, speed(line, 0, rounds));
         for (unsigned v = 1; v < variant_count; v++) {
-            if (variants[v].call[job->work] == NULL) {
+            if (variants[v].call[job->work] != NULL)
+                printf(" %.2f (%.1f) |", ratio(line, v, rounds), speed(line, v, rounds));
+            else if (takes_part(v, from, end))
                 printf(" - |");
-                continue;
-            }
-            double clear = ratio(line, v, rounds), part = loaded_ratio(line, v, rounds) / clear;
-            least = part < least ? part : least;
-            most = part > most ? part : most;
-            printf(" %.2f (%.1f) |", clear, speed(line, v, rounds));
         }
         printf("\n");
     }
+}
+
+/* Prints the table of the calls with blocks listed, a column for each number of them. */
+static void print_list_table(unsigned rounds)
+{
+    unsigned test = variant_count - 1;
+    printf("| call | d | B |");
+    for (unsigned c = 0; c < COUNTS; c++)
+        printf(" %u listed |", counts[c]);
+    printf("\n|---|---|---|---|---|---|\n");
+    for (const struct line *row = lines + LIST_LINES; row < lines + LINES; row += COUNTS) {
+        printf("| %s | %u | %u |", titles[row->job.work], row->job.d, row->job.b);
+        for (const struct line *line = row; line < row + COUNTS; line++)
+            printf(" %.1f (%.1f) |", clear_time(line, 0, rounds) / 1e3, 1 / ratio(line, test, rounds));
+        printf("\n");
+    }
+}
+
+/* Prints the terms, the tables, and below them how the ratios are with the machine's other load. */
+void print_report(unsigned rounds)
+{
+    print_terms(rounds);
+    print_stripe_terms();
+    print_table(lines, lines + SHELF_WORKS * MEASURES, rounds);
+    print_shelf_terms();
+    print_table(lines + SHELF_WORKS * MEASURES, lines + LIST_LINES, rounds);
+    print_list_terms();
+    print_list_table(rounds);
     printf("\nWith whatever else ran at the time, by the median over all rounds, a ratio was %.2f to %.2f times the"
-           " one shown.\n", least, most);
+           " one shown.\n", least_part, most_part);
 }

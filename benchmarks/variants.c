@@ -1,9 +1,8 @@
 /* The variants that are timed: for each work, the call of this library's archives, of ISA-L where
-   it is there, of the C rows with the doubling in two spellings, and of memcpy. */
+   it is there, by the code that it chooses and by that for SSE, of the C rows with the doubling in
+   two spellings, of memcpy, and of a call that only tests the list. */
 #include "bench.h"
 #include "stripe.h"
-
-#include <string.h>
 
 /* The export of libprobe.a: P and Q of every stripe of an array kept by member. It answers 0. */
 uint32_t probe_make_parity_all(uint32_t d, uint32_t s, uint32_t b, uint8_t *array, size_t len);
@@ -56,20 +55,34 @@ static void ours_all(const struct job *job)
 CALLS_OF(plain)
 CALLS_OF(mask)
 
-/* The limit: a copy of the data blocks. */
-static void copy_data(const struct job *job)
-{
-    memcpy(job->copy, job->bytes, (size_t)job->d * job->s * job->b);
-}
+/* What a set of ISA-L's functions or of C rows does. */
+#define SUMS_OF(set)                                                                               \
+    {[PARITY] = set##_pq, [ONE_BLOCK] = set##_xor, [ALL_STRIPES] = set##_pq_all,                   \
+     [WRITE] = set##_write, [READ_ONE] = set##_xor_all, [REBUILD_ONE] = set##_xor_all,             \
+     [REBUILD_PARITY] = set##_pq_all, [FULL_RESYNC] = set##_pq_all}
+#define PRODUCTS_OF(set)                                                                           \
+    {[PARITY] = set##_encode, [ONE_BLOCK] = set##_encode, [TWO_BLOCKS] = set##_encode,             \
+     [READ_TWO] = set##_encode_all, [REBUILD_TWO] = set##_encode_all}
+#define ROWS_OF(set)                                                                               \
+    {[PARITY] = set##_parity, [ONE_BLOCK] = set##_one, [TWO_BLOCKS] = set##_two, [ALL_STRIPES] = set##_all}
 
 const struct variant variants[] = {
-    {ours, false, {ours_parity, ours_recover, ours_recover, ours_all}},
+    {ours, false,
+     {[PARITY] = ours_parity, [ONE_BLOCK] = ours_recover, [TWO_BLOCKS] = ours_recover, [ALL_STRIPES] = ours_all,
+      [WRITE] = ours_write, [READ] = ours_read, [READ_ONE] = ours_read_lost, [READ_TWO] = ours_read_lost,
+      [REBUILD_ONE] = ours_rebuild, [REBUILD_TWO] = ours_rebuild, [REBUILD_PARITY] = ours_rebuild,
+      [FULL_RESYNC] = ours_full_resync, [LOG_AGAIN] = ours_log, [LOG_NEW] = ours_log, [RESYNC] = ours_resync}},
 #ifdef WITH_ISAL
-    {"ISA-L pq_gen, xor_gen", true, {isal_pq, isal_xor, NULL, isal_pq_all}},
-    {"ISA-L ec_encode_data", true, {isal_encode, isal_encode, isal_encode, NULL}},
+    {"ISA-L pq_gen, xor_gen", true, SUMS_OF(isal)},
+    {"the same for SSE", false, SUMS_OF(isal_sse)},
+    {"ISA-L ec_encode_data", true, PRODUCTS_OF(isal)},
+    {"the same for SSE", false, PRODUCTS_OF(isal_sse)},
 #endif
-    {"C rows", false, {plain_parity, plain_one, plain_two, plain_all}},
-    {"C rows by mask", false, {mask_parity, mask_one, mask_two, mask_all}},
-    {"memcpy", false, {copy_data, copy_data, copy_data, copy_data}},
+    {"C rows", false, ROWS_OF(plain)},
+    {"C rows by mask", false, ROWS_OF(mask)},
+    {"memcpy", false,
+     {[PARITY] = copy_data, [ONE_BLOCK] = copy_data, [TWO_BLOCKS] = copy_data, [ALL_STRIPES] = copy_data,
+      [READ] = copy_blocks}},
+    {"list test", false, {[LOG_AGAIN] = ours_test, [LOG_NEW] = ours_test, [RESYNC] = ours_test}},
 };
 const unsigned variant_count = sizeof variants / sizeof variants[0];

@@ -1,0 +1,248 @@
+/* What is worked on: the lines' jobs with their bytes, and the test that each variant makes of them
+   what it must. */
+#include "bench.h"
+
+#include <stdio.h>
+#include <stdlib.h>
+#include <string.h>
+
+#define PAGE ((size_t)4096)
+
+static const uint32_t measures[MEASURES][2] = {{5, 512}, {5, 4096}, {16, 512}, {16, 4096}};
+const uint32_t counts[COUNTS] = {16, 256, PLACES};
+struct line lines[LINES];
+
+/* Bytes at the start of a page, all written once. */
+static uint8_t *pages(size_t len)
+{
+    len = (len + PAGE - 1) / PAGE * PAGE;
+    uint8_t *bytes = aligned_alloc(PAGE, len);
+    if (bytes == NULL) {
+        fprintf(stderr, "benchmark: no memory\n");
+        exit(1);
+    }
+    return memset(bytes, 1, len);
+}
+
+/* The members that a job's work makes or finds failed: one data disk, two, or P and Q. */
+static void name_members(struct job *job)
+{
+    enum work w = job->work;
+    job->x = job->d;
+    job->y = job->d + 1;
+    if (w == ONE_BLOCK || w == READ_ONE || w == REBUILD_ONE)
+        job->x = job->y = 2;
+    if (w == TWO_BLOCKS || w == READ_TWO || w == REBUILD_TWO) {
+        job->x = job->d == 5 ? 1 : 3;
+        job->y = job->d == 5 ? 3 : 11;
+    }
+}
+
+/* Fills a line's job with random data, with P and Q by the second variant, and keeps a copy. */
+static void fill(struct line *line)
+{
+    struct job making = line->job;
+    making.work = making.s == 1 ? PARITY : ALL_STRIPES;
+    name_members(&making);
+    for (size_t k = 0; k < making.len; k += sizeof(uint64_t)) {
+        uint64_t word = next_random();
+        memcpy(making.bytes + k, &word, sizeof word);
+    }
+    turn_to(&making);
+    run_batch(&variants[1], &making, 1);
+    line->sound = memcpy(pages(making.len), making.bytes, making.len);
+}
+
+/* A line for one stripe, or for an array, of random bytes with their P and Q. */
+static struct line random_line(enum work work, unsigned m, uint32_t s, uint8_t *copy)
+{
+    struct line line = {.job = {.work = work, .d = measures[m][0], .b = measures[m][1], .s = s, .copy = copy}};
+    line.job.len = (size_t)(line.job.d + 2) * s * line.job.b;
+    line.job.bytes = pages(line.job.len);
+    name_members(&line.job);
+    fill(&line);
+    return line;
+}
+
+/* A line for a shelf: an array, what it is lent beside it, and the data in the order of addresses. */
+static struct line shelf_line(unsigned m, uint8_t *copy)
+{
+    size_t stripe = (size_t)measures[m][0] * measures[m][1];
+    struct line line = random_line(ALL_STRIPES, m, (uint32_t)((DATA_BYTES + stripe - 1) / stripe), copy);
+    struct job *job = &line.job;
+    job->log = pages((size_t)LOG_RECORDS * job->b);
+    job->list = pages(LIST_BYTES);
+    format(job);
+    memcpy(job->bytes, line.sound, job->len);
+    copy_blocks(job);
+    job->data = memcpy(pages(stripe * job->s), copy, stripe * job->s);
+    return line;
+}
+
+/* The same shelf for another work, with the members failed that it names. */
+static struct line with_work(const struct line *shelf, enum work work)
+{
+    struct line line = *shelf;
+    struct job *job = &line.job;
+    job->work = work;
+    name_members(job);
+    if (work >= READ_ONE && work <= REBUILD_PARITY)
+        job->record.failed[job->x] = job->record.failed[job->y] = true;
+    return line;
+}
+
+/* The address that is listed as number k: they are spread over the stripes and over the slots. */
+static size_t address_of(const struct job *job, size_t k)
+{
+    return k * 1009 % ((size_t)job->d * job->s);
+}
+
+/* Makes a line of a shelf on which so many blocks are listed. The log's records above those that any
+   such shelf uses are left to the timed call. */
+static void keep_listed(struct line *line, const struct line *shelf, enum work work, uint32_t count)
+{
+    *line = with_work(shelf, work);
+    struct job *job = &line->job;
+    job->listed = count;
+    job->address = address_of(job, work == LOG_NEW ? count - 1 : count / 2);
+    job->record.next = 2 * PLACES;
+    job->list_before = memcpy(pages(LIST_BYTES), job->list, LIST_BYTES);
+}
+
+/* Makes the lines with blocks listed, as the list of a shelf grows by one write after another. To
+   log a new block there is one listed less before the call. */
+static void list_lines(struct line *shelf, unsigned m)
+{
+    struct job *job = &shelf->job;
+    job->list = memcpy(pages(LIST_BYTES), job->list, LIST_BYTES);
+    start(job);
+    for (uint32_t n = 0; n <= PLACES; n++) {
+        for (unsigned k = 0; k < (WORKS - LIST_WORKS) * COUNTS; k++) {
+            enum work work = (enum work)(LIST_WORKS + k / COUNTS);
+            struct line *line = &lines[LIST_LINES + (k / COUNTS * MEASURES + m) * COUNTS + k % COUNTS];
+            if (n + (work == LOG_NEW) == counts[k % COUNTS])
+                keep_listed(line, shelf, work, counts[k % COUNTS]);
+        }
+        if (n < PLACES)
+            job->record = log_block(job, address_of(job, n));
+    }
+}
+
+/* Makes all lines. Those of an array share one for each pair of measures. */
+void make_lines(void)
+{
+    uint8_t *copy = pages(DATA_BYTES + MOST_DATA * PAGE);
+    for (unsigned m = 0; m < MEASURES; m++) {
+        struct line shelf = shelf_line(m, copy);
+        for (unsigned w = 0; w < LIST_WORKS; w++)
+            lines[w * MEASURES + m] =
+                w < ALL_STRIPES ? random_line((enum work)w, m, 1, copy) : with_work(&shelf, (enum work)w);
+        list_lines(&shelf, m);
+    }
+}
+
+/* Makes bytes differ from what they must be. */
+static void spoil(uint8_t *bytes, const uint8_t *sound, size_t len)
+{
+    for (size_t k = 0; k < len; k++)
+        bytes[k] = (uint8_t)~sound[k];
+}
+
+/* The same with the first stripes of a member, so many of them. */
+static void spoil_member(const struct line *line, uint32_t member, uint32_t stripes)
+{
+    const struct job *job = &line->job;
+    size_t from = (size_t)member * job->s * job->b;
+    spoil(job->bytes + from, line->sound + from, (size_t)stripes * job->b);
+}
+
+/* Ends the program unless bytes are what they must be. */
+static void hold(const struct line *line, const char *who, const uint8_t *bytes, const uint8_t *sound, size_t len)
+{
+    if (memcmp(bytes, sound, len) != 0)
+        fail(&line->job, who, "the result differs");
+}
+
+/* Ends the program unless the job's bytes are what they must be. */
+void compare(const struct line *line, const char *who)
+{
+    hold(line, who, line->job.bytes, line->sound, line->job.len);
+}
+
+/* Holds what a variant makes over spoilt members to the sound bytes. A write makes all members. */
+static void check_made(const struct line *line, const struct variant *v)
+{
+    const struct job *job = &line->job;
+    for (uint32_t i = 0; i < job->d + 2; i++)
+        if (job->work == WRITE || i == job->x || i == job->y)
+            spoil_member(line, i, job->s);
+    run_batch(v, job, 1);
+    compare(line, v->name);
+}
+
+/* Holds what a variant reads to the data, or to the blocks of disk x while the failed disks are spoilt. */
+static void check_read(const struct line *line, const struct variant *v)
+{
+    const struct job *job = &line->job;
+    size_t member = (size_t)job->s * job->b;
+    bool lost = job->work != READ;
+    const uint8_t *want = lost ? line->sound + job->x * member : job->data;
+    size_t len = lost ? member : job->d * member;
+    spoil(job->copy, want, len);
+    if (lost) {
+        spoil_member(line, job->x, job->s);
+        spoil_member(line, job->y, job->s);
+    }
+    run_batch(v, job, 1);
+    hold(line, v->name, job->copy, want, len);
+    memcpy(job->bytes, line->sound, job->len);
+}
+
+/* Holds a logged block to the data: as it is read after the call while its disk is spoilt and failed. */
+static void check_logged(const struct line *line, const struct variant *v)
+{
+    const struct job *job = &line->job;
+    uint8_t *block = block_at(job, job->address);
+    const uint8_t *want = line->sound + (block - job->bytes);
+    set_list(job);
+    struct shelf_record after = log_block(job, job->address);
+    if (after.listed != job->listed)
+        fail(job, v->name, "another number of blocks is listed");
+    compare(line, v->name);
+    spoil(block, want, job->b);
+    spoil(job->copy, want, job->b);
+    after.failed[job->address % job->d] = true;
+    read_block(job, after, job->address, job->copy);
+    hold(line, v->name, job->copy, want, job->b);
+    memcpy(block, want, job->b);
+}
+
+/* Holds the parity of stripe 0 that a resync makes to the sound bytes. */
+static void check_resync(const struct line *line, const struct variant *v)
+{
+    const struct job *job = &line->job;
+    spoil_member(line, job->x, 1);
+    spoil_member(line, job->y, 1);
+    run_batch(v, job, 1);
+    compare(line, v->name);
+}
+
+/* Compares the results of all variants that have one: a copy of all members and a test of the list have none. */
+void check(const struct line *line)
+{
+    enum work work = line->job.work;
+    bool reads = work >= READ && work <= READ_TWO;
+    for (unsigned k = 0; k < variant_count; k++) {
+        const struct variant *v = &variants[k];
+        if (v->call[work] == NULL || v->call[work] == copy_data || v->call[work] == ours_test)
+            continue;
+        if (work == RESYNC)
+            check_resync(line, v);
+        else if (work >= LIST_WORKS)
+            check_logged(line, v);
+        else if (reads)
+            check_read(line, v);
+        else
+            check_made(line, v);
+    }
+}

@@ -1,0 +1,103 @@
+/* The calls of libshelf.a on a job: over its whole array, and one at a time with blocks listed. */
+#include "bench.h"
+
+#include <string.h>
+
+#define BUFFERS(job) (job)->bytes, (job)->len, (job)->log, (size_t)LOG_RECORDS * (job)->b, (job)->list, LIST_BYTES
+
+/* Ends the program unless a call answered the number that it must. */
+static void expect(const struct job *job, size_t code, size_t must)
+{
+    if (code != must)
+        fail(job, "this library", "a call of the shelf did not answer what it must");
+}
+
+/* Makes a fresh shelf of the job's measures. */
+void format(struct job *job)
+{
+    struct shelf_record fresh = {{job->d, job->s, job->b, LOG_RECORDS, SLOTS, PLACES}, 0, 0, 0, {false}};
+    struct shelf_answer a = shelf_format(fresh, BUFFERS(job));
+    expect(job, a.code, SHELF_OK);
+    job->record = a.shelf;
+}
+
+/* Lets the shelf put parity off. */
+void start(struct job *job)
+{
+    struct shelf_answer a = shelf_start(job->record, BUFFERS(job));
+    expect(job, a.code, SHELF_OK);
+    job->record = a.shelf;
+}
+
+/* Makes the list what it is before each call. */
+void set_list(const struct job *job)
+{
+    memcpy(job->list, job->list_before, LIST_BYTES);
+}
+
+/* Writes one block, which the shelf logs. Hands back the record after it. */
+struct shelf_record log_block(const struct job *job, size_t address)
+{
+    struct shelf_answer a = shelf_write(job->record, address, 1, job->data + address * job->b, job->b, BUFFERS(job));
+    expect(job, a.code, SHELF_OK);
+    return a.shelf;
+}
+
+/* Reads one block. */
+void read_block(const struct job *job, struct shelf_record record, size_t address, uint8_t *to)
+{
+    expect(job, shelf_read(record, address, 1, to, job->b, BUFFERS(job)).code, SHELF_OK);
+}
+
+/* Writes all blocks in one call. */
+void ours_write(const struct job *job)
+{
+    size_t count = (size_t)job->d * job->s;
+    expect(job, shelf_write(job->record, 0, count, job->data, count * job->b, BUFFERS(job)).code, SHELF_OK);
+}
+
+/* Reads all blocks in one call. */
+void ours_read(const struct job *job)
+{
+    size_t count = (size_t)job->d * job->s;
+    expect(job, shelf_read(job->record, 0, count, job->copy, count * job->b, BUFFERS(job)).code, SHELF_OK);
+}
+
+/* Reads the blocks of disk x, a call a block. */
+void ours_read_lost(const struct job *job)
+{
+    for (size_t t = 0; t < job->s; t++)
+        read_block(job, job->record, t * job->d + job->x, job->copy + t * job->b);
+}
+
+/* Fills the failed members in one call. */
+void ours_rebuild(const struct job *job)
+{
+    expect(job, shelf_rebuild(job->record, BUFFERS(job)).code, SHELF_OK);
+}
+
+/* Makes all parity in one call. */
+void ours_full_resync(const struct job *job)
+{
+    expect(job, shelf_full_resync(job->record, BUFFERS(job)).code, SHELF_OK);
+}
+
+/* Writes the job's block, which the shelf logs. */
+void ours_log(const struct job *job)
+{
+    log_block(job, job->address);
+}
+
+/* Makes the parity of the lowest stale stripe, which is 0. */
+void ours_resync(const struct job *job)
+{
+    struct shelf_resynced r = shelf_resync(job->record, BUFFERS(job));
+    expect(job, r.code, SHELF_OK);
+    expect(job, r.stripe, 0);
+}
+
+/* A call that does no more than test the list: it is refused for the mode. */
+void ours_test(const struct job *job)
+{
+    expect(job, shelf_start(job->record, BUFFERS(job)).code, SHELF_WRONG_MODE);
+}
