@@ -1,21 +1,30 @@
--- Laws of the room that the bench program has.
+-- Laws of the room that the bench program has, of the data of a call, and of what comes of a request.
 -- Assumes nothing.
-use mathlib.Core.Bool.{Bool, true, false, cond, not, _&&_}
+use mathlib.Core.Bool.{Bool, true, false, cond, not}
 use mathlib.Core.List.{List, _++_}
-use mathlib.Core.Path.{_≡_, refl, sym, ap, _∙_}
+use mathlib.Core.Path.{_≡_, refl, sym, ap, ap₂, _∙_, subst}
 use Prim.Native.Nat.{ℕ, zero, suc, _+_, _*_, _/_, _≤_, _<_}
+use native.Mathlib.Decide.{decLt}
 use native.Mathlib.Nat.{mul-le-mul-right, div-mul-le-self, div-lt-iff-lt-mul, mul-zero}
 use native.Mathlib.Omega.{arith}
 use lib.Dec.{eqb, leb}
 use lib.ListN.{length, take, drop, getD, replicate, length-replicate}
 use lib.Seq.{length-take-le, take-at}
-use borrow.Author.Tests.{le-leb, lt-leb, leb-true, not-true, ne-eqb}
-use Rattle.shelf.specs.Members.{InRange}
-use Rattle.shelf.specs.Lent.{badMeasures, arrayLength, logLength, listLength}
-use Rattle.shelf.specs.declared.record.Geometry.{Geometry}
-use Rattle.shelf.proofs.numbers.InputLaws.{in-range}
+use borrow.Author.Tests.{lt-ltb, le-leb, lt-leb, leb-true, not-true, ne-eqb}
+use Rattle.lines.specs.declared.requests.Request.{Request}
+use Rattle.lines.specs.declared.requests.Request.the-variants as Request
 use Rattle.lines.proofs.TestLaws.{and-left, and-right}
-use Rattle.bench.specs.Bench.{fits, dataLength}
+use Rattle.shelf.specs.Counting.{choose}
+use Rattle.shelf.specs.Members.{InRange}
+use Rattle.shelf.specs.Status.{Call, write, read, badAddress, codeOf}
+use Rattle.shelf.specs.Lent.{Lent, flagAt, listedBy, badMeasures, arrayLength, logLength, listLength, triesList, inputRows, numberOf, formatted, formatLeaves, Answered}
+use Rattle.shelf.specs.declared.record.Geometry.{Geometry}
+use Rattle.shelf.specs.declared.record.Shelf.{Shelf}
+use Rattle.shelf.proofs.general.TestLaws.{or-true}
+use Rattle.shelf.proofs.numbers.TableRows.{row-hit, row-above}
+use Rattle.shelf.proofs.numbers.InputLaws.{in-range}
+use Rattle.shelf.proofs.lent.Holding.{answered-geometry}
+use Rattle.bench.specs.Bench.{fits, dataLength, Performed}
 
 -- ---- the data of a call
 
@@ -69,11 +78,11 @@ part-length n bytes part h l =
     sym (ap (λ (xs : List ℕ). length xs) (take-at part (drop n bytes) n k) ∙ k)
 
 -- the first byte of an accepted read
-pub first-found : (code n : ℕ) (bytes part read : List ℕ) → n ≤ length bytes → length part ≡ length (take n bytes) → (code ≡ 0 → part ≡ read)
-    → cond (eqb code 0) (getD (take n (part ++ drop n bytes)) 0 0) 0 ≡ cond (eqb code 0) (getD read 0 0) 0
-first-found zero n bytes part read h l same =
+pub first-found : (code n : ℕ) (bytes part got : List ℕ) → n ≤ length bytes → length part ≡ length (take n bytes) → (code ≡ 0 → part ≡ got)
+    → cond (eqb code 0) (getD (take n (part ++ drop n bytes)) 0 0) 0 ≡ cond (eqb code 0) (getD got 0 0) 0
+first-found zero n bytes part got h l same =
     ap (λ (xs : List ℕ). getD xs 0 0) (take-at part (drop n bytes) n (l ∙ length-take-le n bytes h) ∙ same refl)
-first-found (suc code) n bytes part read h l same = simp (ne-eqb (suc code) 0 (λ e. omega arith))
+first-found (suc code) n bytes part got h l same = simp (ne-eqb (suc code) 0 (λ e. omega arith))
 
 -- each of the three buffers has room for its part
 pub rooms : (g : Geometry) → fits g ≡ true → (arrayLength g ≤ 32768) × ((logLength g ≤ 32768) × (listLength g ≤ 32768))
@@ -84,3 +93,91 @@ rooms g t = sums (arrayLength g) (logLength g) (listLength g) (fitting g t .1)
 
 pub part-within : (n m : ℕ) (bytes : List ℕ) → n ≡ m → m ≤ 32768 → length bytes ≡ 32768 → n ≤ length bytes
 part-within n m bytes e h l = omega arith
+
+-- ---- a call for more blocks than the shelf has
+
+few-blocks : (g : Geometry) (a count : ℕ) → fits g ≡ true → 32768 < count * g .b → badAddress g a count ≡ true
+few-blocks g a count t h =
+    let room : arrayLength g ≤ 32768 = rooms g t .0 in
+    let part : g .d * g .s * g .b ≤ (g .d + 2) * g .s * g .b = mul-le-mul-right (g .b) (mul-le-mul-right (g .s) (omega arith)) in
+    let more : g .d * g .s < a + count =
+    elim (decLt (g .d * g .s) count) [
+      | yes l ↦ omega arith
+      | no q ↦ absurd (let k : count * g .b ≤ g .d * g .s * g .b = mul-le-mul-right (g .b) (omega arith) in omega arith)
+    ] in
+    simp (lt-ltb (g .d * g .s) (a + count) more, or-true)
+
+-- the number by the rows of a call
+rowsOf : Lent → Call → ℕ
+rowsOf h c = codeOf (h .shelf .geometry) (flagAt (h .shelf)) (h .shelf .mode) (listedBy (h .shelf .geometry) (h .list)) c
+
+-- two calls that test the list and get 4 by their rows are answered alike
+answered-alike : (h : Lent) (c c′ : Call) (code : ℕ) (h′ : Lent) → triesList c ≡ true → triesList c′ ≡ true → rowsOf h c ≡ 4 → rowsOf h c′ ≡ 4
+    → Answered h c code h′ → Answered h c′ code h′
+unfolding numberOf inputRows rowsOf
+answered-alike h c c′ code h′ t t′ e e′ x =
+    let r : Shelf = h .shelf in
+    let n : (q : Call) → triesList q ≡ true → rowsOf h q ≡ 4
+    → numberOf r (length (h .array)) (length (h .log)) (h .list) q ≡ inputRows r (length (h .array)) (length (h .log)) (h .list) true 4 =
+    λ q u f. ap₂ (λ (b : Bool) (k : ℕ). inputRows r (length (h .array)) (length (h .log)) (h .list) b k) u f in
+    let some : code ≡ 0 → ⊥ = λ z.
+    row-above 1 0 _ _ (omega arith) (row-above 1 0 _ _ (omega arith) (row-above 2 0 _ _ (omega arith) (row-above 3 0 _ _ (omega arith) (λ (k : _≡_ {A = ℕ} 4 0). omega arith))))
+    (sym (n c t e) ∙ sym (x .number) ∙ z) in
+    record {
+      number = x .number ∙ n c t e ∙ sym (n c′ t′ e′);
+      done = λ z. absurd (some z);
+      unaltered = λ z _. absurd (some z);
+      refused = x .refused;
+    }
+
+-- a write with the data that are lent is one with the data that are asked for, and so is a read
+pub write-as-asked : (h : Lent) (a count v n code : ℕ) (bytes : List ℕ) (h′ : Lent) → fits (h .shelf .geometry) ≡ true → n ≡ 32768
+    → bytes ≡ replicate (dataLength count (h .shelf .geometry .b) n) v → Answered h (write a count bytes) code h′
+    → Answered h (write a count (replicate (count * h .shelf .geometry .b) v)) code h′
+unfolding dataLength rowsOf codeOf triesList
+write-as-asked h a count v n code bytes h′ t l e x =
+    let g : Geometry = h .shelf .geometry in
+    elim (decLt n (count * g .b)) [
+      | yes m ↦
+          let bad : badAddress g a count ≡ true = few-blocks g a count t (omega arith) in
+          answered-alike h (write a count bytes) (write a count (replicate (count * g .b) v)) code h′ refl refl
+          (sym (row-hit 4 (badAddress g a count) _ bad)) (sym (row-hit 4 (badAddress g a count) _ bad)) x
+      | no q ↦ subst (λ (d : List ℕ). Answered h (write a count d) code h′) (e ∙ simp (le-leb (count * g .b) n (omega arith))) x
+    ]
+
+pub read-as-asked : (h : Lent) (a count n m code : ℕ) (h′ : Lent) → fits (h .shelf .geometry) ≡ true → n ≡ 32768
+    → m ≡ dataLength count (h .shelf .geometry .b) n → Answered h (read a count m) code h′
+    → Answered h (read a count (count * h .shelf .geometry .b)) code h′
+unfolding dataLength rowsOf codeOf triesList
+read-as-asked h a count n m code h′ t l e x =
+    let g : Geometry = h .shelf .geometry in
+    elim (decLt n (count * g .b)) [
+      | yes k ↦
+          let bad : badAddress g a count ≡ true = few-blocks g a count t (omega arith) in
+          answered-alike h (read a count m) (read a count (count * g .b)) code h′ refl refl
+          (sym (row-hit 4 (badAddress g a count) _ bad)) (sym (row-hit 4 (badAddress g a count) _ bad)) x
+      | no q ↦ subst (λ (d : ℕ). Answered h (read a count d) code h′) (e ∙ simp (le-leb (count * g .b) n (omega arith))) x
+    ]
+
+-- ---- the geometry stays
+
+either-geometry : (t : Bool) (a b : Lent) → a .shelf .geometry ≡ b .shelf .geometry → choose t a b .shelf .geometry ≡ b .shelf .geometry
+unfolding choose
+either-geometry true a b e = e
+either-geometry false a b e = refl
+
+pub format-geometry : (h : Lent) → formatLeaves h .shelf .geometry ≡ h .shelf .geometry
+unfolding formatLeaves formatted
+format-geometry h = either-geometry _ (formatted (h .shelf .geometry)) h refl
+
+pub performed-geometry : (q : Request) (h : Lent) (code first : ℕ) (h′ : Lent) → Performed q h code first h′ → h′ .shelf .geometry ≡ h .shelf .geometry
+unfolding Performed
+performed-geometry Request.Start h code first h′ p = answered-geometry h _ code h′ (p .0)
+performed-geometry (Request.Write a n v) h code first h′ p = answered-geometry h _ code h′ (p .0)
+performed-geometry (Request.Read a n) h code first h′ p = answered-geometry h _ code h′ (p .0)
+performed-geometry (Request.Fail j) h code first h′ p = answered-geometry h _ code h′ (p .0)
+performed-geometry Request.Resync h code first h′ p = answered-geometry h _ code h′ (p .0)
+performed-geometry Request.Rebuild h code first h′ p = answered-geometry h _ code h′ (p .0)
+performed-geometry Request.NewLog h code first h′ p = answered-geometry h _ code h′ (p .0)
+performed-geometry Request.FullResync h code first h′ p = answered-geometry h _ code h′ (p .0)
+performed-geometry Request.Unreadable h code first h′ p = ap (λ (k : Lent). k .shelf .geometry) (p .1 .1)

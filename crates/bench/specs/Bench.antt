@@ -8,11 +8,14 @@ use lib.Dec.{eqb, leb}
 use lib.ListN.{getD, replicate}
 use Rattle.lines.specs.declared.measures.Measures.{Measures}
 use Rattle.lines.specs.declared.measures.Measures.the-variants.{Six, Unreadable}
+use Rattle.lines.specs.RequestLines.{requestLine}
+use Rattle.lines.specs.declared.answers.Answer.{Answer}
 use Rattle.lines.specs.declared.requests.Request.{Request}
 use Rattle.lines.specs.declared.requests.Request.the-variants as Request
 use Rattle.shelf.specs.Status.{start, fail, write, read, resync, rebuild, newLog, fullResync}
 use Rattle.shelf.specs.Lent.{Lent, badMeasures, arrayLength, logLength, listLength, stateOf, readBuffer, Answered}
 use Rattle.shelf.specs.declared.record.Geometry.{Geometry}
+use Rattle.bench.specs.declared.calls.Outcome.{Outcome}
 
 -- the geometry that measures say; zeros, which are out of range, where they can't be read
 unfoldable pub geometryOf : Measures → Geometry
@@ -23,7 +26,7 @@ geometryOf Unreadable = record { d = 0; s = 0; b = 0; l = 0; h = 0; e = 0 }
 unfoldable pub fits : Geometry → Bool
 fits g = not (badMeasures g) && leb (arrayLength g + logLength g + listLength g) 32768
 
--- how many of n bytes are the data of count blocks of b bytes; none where they do not suffice
+-- how many of n bytes are lent as the data of count blocks of b bytes: all that they take, or none where n bytes are too few
 unfoldable pub dataLength : ℕ → ℕ → ℕ → ℕ
 dataLength count b n = cond (leb (count * b) n) (count * b) 0
 
@@ -31,16 +34,27 @@ dataLength count b n = cond (leb (count * b) n) (count * b) 0
 unfoldable pub firstRead : Lent → ℕ → ℕ → ℕ → ℕ
 firstRead h a count code = cond (eqb code 0) (getD (readBuffer (h .shelf .geometry) (stateOf h) a count) 0 0) 0
 
--- what comes of a request on what is lent, with n bytes for the data of a call: the code, the first byte read (0 if none), and what is left.
--- The shelf's call is answered; a line that can't be read gets 15 and changes nothing.
-unfoldable pub Performed : Request → ℕ → Lent → ℕ → ℕ → Lent → Type 0
-Performed Request.Start n h code first h′ = Answered h start code h′ × (first ≡ 0)
-Performed (Request.Write a count v) n h code first h′ = Answered h (write a count (replicate (dataLength count (h .shelf .geometry .b) n) v)) code h′ × (first ≡ 0)
-Performed (Request.Read a count) n h code first h′ =
-    Answered h (read a count (dataLength count (h .shelf .geometry .b) n)) code h′ × (first ≡ firstRead h a count code)
-Performed (Request.Fail j) n h code first h′ = Answered h (fail j) code h′ × (first ≡ 0)
-Performed Request.Resync n h code first h′ = Answered h resync code h′ × (first ≡ 0)
-Performed Request.Rebuild n h code first h′ = Answered h rebuild code h′ × (first ≡ 0)
-Performed Request.NewLog n h code first h′ = Answered h newLog code h′ × (first ≡ 0)
-Performed Request.FullResync n h code first h′ = Answered h fullResync code h′ × (first ≡ 0)
-Performed Request.Unreadable n h code first h′ = (code ≡ 15) × ((first ≡ 0) × (h′ ≡ h))
+-- what comes of a request on what is lent: the code, the first byte read (0 if none), and what is left. The shelf's call is answered, a write's
+-- data being count blocks of the fill byte v, a read's buffer count blocks long; a line that can't be read gets 15 and changes nothing.
+unfoldable pub Performed : Request → Lent → ℕ → ℕ → Lent → Type 0
+Performed Request.Start h code first h′ = Answered h start code h′ × (first ≡ 0)
+Performed (Request.Write a count v) h code first h′ =
+    Answered h (write a count (replicate (count * h .shelf .geometry .b) v)) code h′ × (first ≡ 0)
+Performed (Request.Read a count) h code first h′ =
+    Answered h (read a count (count * h .shelf .geometry .b)) code h′ × (first ≡ firstRead h a count code)
+Performed (Request.Fail j) h code first h′ = Answered h (fail j) code h′ × (first ≡ 0)
+Performed Request.Resync h code first h′ = Answered h resync code h′ × (first ≡ 0)
+Performed Request.Rebuild h code first h′ = Answered h rebuild code h′ × (first ≡ 0)
+Performed Request.NewLog h code first h′ = Answered h newLog code h′ × (first ≡ 0)
+Performed Request.FullResync h code first h′ = Answered h fullResync code h′ × (first ≡ 0)
+Performed Request.Unreadable h code first h′ = (code ≡ 15) × ((first ≡ 0) × (h′ ≡ h))
+
+-- the answer that is written of an outcome: its code, the record's mode, listed and next after it, the first byte
+abbrev pub answerOf : Outcome → Answer
+answerOf o = record { code = o .code; mode = o .shelf .mode; listed = o .shelf .listed; next = o .shelf .next; first = o .first }
+
+-- what a line asks for came of it, with some code and first byte
+pub record Served (line : List ℕ) (h h′ : Lent) : Type 0 where
+  pub code : ℕ
+  pub first : ℕ
+  pub performed : Performed (requestLine line) h code first h′

@@ -2,13 +2,14 @@
 use super::room;
 use lines::requests::Request;
 use shelf::record::Shelf;
-ghost use mathlib.Core.Bool.{cond};
+ghost use mathlib.Core.Bool.{true, cond};
 ghost use mathlib.Core.Path.{_≡_};
+ghost use Prim.Native.Nat.{_*_};
 ghost use lib.Dec.{eqb};
 ghost use lib.ListN.{length, getD, replicate};
 ghost use Rattle.shelf.specs.Lent.{lent, Answered};
 ghost use Rattle.shelf.specs.Status.{resync, write, read};
-ghost use Rattle.bench.specs.Bench.{dataLength, firstRead, Performed};
+ghost use Rattle.bench.specs.Bench.{fits, firstRead, Performed};
 
 // What came of a request: the number, the first byte read (0 if none), and the record after it.
 pub struct Outcome {
@@ -18,7 +19,7 @@ pub struct Outcome {
 }
 
 // The number of a line that can't be read.
-pub const BAD_LINE: usize = 15;
+const BAD_LINE: usize = 15;
 
 // Makes the call that a request asks for. The data of a write are made, and those of a read are put, in bytes.
 pub fn perform(
@@ -29,7 +30,8 @@ pub fn perform(
     list: &mut [u8],
     bytes: &mut [u8],
 ) -> Outcome
-    ensures { λ r. ⌜ Performed request (length (now (bytes .entry))) (lent shelf (now (array .entry)) (now (log .entry)) (now (list .entry))) (r .code) (r .first) (lent (r .shelf) (now (array .exit)) (now (log .exit)) (now (list .exit))) ⌝ }
+    requires { ⌜ (fits (shelf .geometry) ≡ true) × (length (now bytes) ≡ 32768) ⌝ }
+    ensures { λ r. ⌜ Performed request (lent shelf (now (array .entry)) (now (log .entry)) (now (list .entry))) (r .code) (r .first) (lent (r .shelf) (now (array .exit)) (now (log .exit)) (now (list .exit))) ⌝ }
 {
     match request {
         Request::Start => told(shelf::shelf_start(shelf, array, log, list)),
@@ -62,7 +64,7 @@ fn told(a: shelf::Answer) -> Outcome
     }
 }
 
-// A resync, whose stripe is not told.
+// A resync; the stripe that it tells is not written.
 fn resync(shelf: Shelf, array: &mut [u8], log: &[u8], list: &mut [u8]) -> Outcome
     ensures { λ r. ⌜ Answered (lent shelf (now (array .entry)) (now (log .entry)) (now (list .entry))) resync (r .code) (lent (r .shelf) (now (array .exit)) (now (log .entry)) (now (list .exit))) × (r .first ≡ 0) ⌝ }
 {
@@ -75,8 +77,8 @@ fn resync(shelf: Shelf, array: &mut [u8], log: &[u8], list: &mut [u8]) -> Outcom
     }
 }
 
-// A write of count blocks from an address on, each byte of which is v. Where there is no room for their bytes the shelf has fewer blocks, and
-// the write is refused whatever the data are.
+// A write of count blocks from an address on, each byte of which is v. Where there is no room for their bytes the shelf has fewer blocks: the
+// write is then refused for its address, whatever the data are, and none are lent.
 fn write_fill(
     shelf: Shelf,
     address: usize,
@@ -87,7 +89,8 @@ fn write_fill(
     list: &mut [u8],
     bytes: &mut [u8],
 ) -> Outcome
-    ensures { λ r. ⌜ Answered (lent shelf (now (array .entry)) (now (log .entry)) (now (list .entry))) (write address count (replicate (dataLength count (shelf .geometry .b) (length (now (bytes .entry)))) v)) (r .code) (lent (r .shelf) (now (array .exit)) (now (log .exit)) (now (list .exit))) × (r .first ≡ 0) ⌝ }
+    requires { ⌜ (fits (shelf .geometry) ≡ true) × (length (now bytes) ≡ 32768) ⌝ }
+    ensures { λ r. ⌜ Answered (lent shelf (now (array .entry)) (now (log .entry)) (now (list .entry))) (write address count (replicate (count * shelf .geometry .b) v)) (r .code) (lent (r .shelf) (now (array .exit)) (now (log .exit)) (now (list .exit))) × (r .first ≡ 0) ⌝ }
 {
     let g = shelf.geometry;
     let n = room::data_length(count, g.b, bytes.len());
@@ -105,7 +108,8 @@ fn read_first(
     list: &[u8],
     bytes: &mut [u8],
 ) -> Outcome
-    ensures { λ r. ⌜ Answered (lent shelf (now (array .entry)) (now (log .entry)) (now (list .entry))) (read address count (dataLength count (shelf .geometry .b) (length (now (bytes .entry))))) (r .code) (lent (r .shelf) (now (array .entry)) (now (log .entry)) (now (list .entry))) × (r .first ≡ firstRead (lent shelf (now (array .entry)) (now (log .entry)) (now (list .entry))) address count (r .code)) ⌝ }
+    requires { ⌜ (fits (shelf .geometry) ≡ true) × (length (now bytes) ≡ 32768) ⌝ }
+    ensures { λ r. ⌜ Answered (lent shelf (now (array .entry)) (now (log .entry)) (now (list .entry))) (read address count (count * shelf .geometry .b)) (r .code) (lent (r .shelf) (now (array .entry)) (now (log .entry)) (now (list .entry))) × (r .first ≡ firstRead (lent shelf (now (array .entry)) (now (log .entry)) (now (list .entry))) address count (r .code)) ⌝ }
 {
     let g = shelf.geometry;
     let n = room::data_length(count, g.b, bytes.len());

@@ -1,4 +1,5 @@
-// Standard input, a line at a time, whatever the pieces are in which it comes. No contract can say what is read.
+// Standard input, a line at a time, whatever the pieces are in which it comes. No contract can say what a read finds; those here keep to
+// the buffers.
 use libc::STDIN_FILENO;
 ghost use mathlib.Core.Path.{_≡_};
 ghost use Prim.Native.Nat.{_+_, _≤_};
@@ -24,7 +25,8 @@ struct Taken {
     input: Input,
 }
 
-// Puts the next line at the start of line, without its newline. The last line may lack its newline.
+// Puts the next line at the start of line, without its newline. The last line may lack its newline. The turns are counted down from a
+// number that no input uses up, since a loop has to end.
 pub fn read_line(chunk: &mut [u8], line: &mut [u8], from: Input) -> Line
     requires { ⌜ (from .to ≤ length (now chunk)) × (length (now line) ≤ 65536) ⌝ }
     ensures { λ r. ⌜ (r .len ≤ length (now (line .exit))) × (r .input .to ≤ length (now (chunk .exit))) ⌝ }

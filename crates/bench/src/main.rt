@@ -13,7 +13,8 @@ ghost use mathlib.Core.Path.{_≡_};
 ghost use Prim.Native.Nat.{_≤_};
 ghost use lib.ListN.{length};
 ghost use Rattle.lines.specs.MeasureLines.{measuresLine};
-ghost use Rattle.bench.specs.Bench.{geometryOf, fits};
+ghost use Rattle.shelf.specs.Lent.{lent, arrayLength, logLength, listLength};
+ghost use Rattle.bench.specs.Bench.{geometryOf, fits, Served};
 
 // What the first two lines say: a geometry, and the input after them.
 struct Head {
@@ -48,7 +49,7 @@ fn run(
     list: &mut [u8],
     bytes: &mut [u8],
 )
-    requires { ⌜ (length (now line) ≡ 65536) × ((length (now array) ≡ 32768) × ((length (now log) ≡ 32768) × (length (now list) ≡ 32768))) ⌝ }
+    requires { ⌜ (length (now line) ≡ 65536) × ((length (now array) ≡ 32768) × ((length (now log) ≡ 32768) × ((length (now list) ≡ 32768) × (length (now bytes) ≡ 32768)))) ⌝ }
 {
     output::print_columns();
     let head = read_head(chunk, line);
@@ -103,7 +104,7 @@ fn lend(
     list: &mut [u8],
     bytes: &mut [u8],
 )
-    requires { ⌜ (fits g ≡ true) × ((from .to ≤ length (now chunk)) × ((length (now line) ≡ 65536) × ((length (now array) ≡ 32768) × ((length (now log) ≡ 32768) × (length (now list) ≡ 32768))))) ⌝ }
+    requires { ⌜ (fits g ≡ true) × ((from .to ≤ length (now chunk)) × ((length (now line) ≡ 65536) × ((length (now array) ≡ 32768) × ((length (now log) ≡ 32768) × ((length (now list) ≡ 32768) × (length (now bytes) ≡ 32768)))))) ⌝ }
 {
     let a = room::array_length(g);
     let l = room::log_length(g);
@@ -131,7 +132,7 @@ fn serve(
     list: &mut [u8],
     bytes: &mut [u8],
 )
-    requires { ⌜ (length (now line) ≡ 65536) × (from .to ≤ length (now chunk)) ⌝ }
+    requires { ⌜ (fits g ≡ true) × ((from .to ≤ length (now chunk)) × ((length (now line) ≡ 65536) × ((length (now array) ≡ arrayLength g) × ((length (now log) ≡ logLength g) × ((length (now list) ≡ listLength g) × (length (now bytes) ≡ 32768)))))) ⌝ }
 {
     let blank = Shelf {
         geometry: g,
@@ -167,7 +168,7 @@ fn answer_all(
     list: &mut [u8],
     bytes: &mut [u8],
 )
-    requires { ⌜ (length (now line) ≡ 65536) × (from .to ≤ length (now chunk)) ⌝ }
+    requires { ⌜ (fits (fresh .geometry) ≡ true) × ((from .to ≤ length (now chunk)) × ((length (now line) ≡ 65536) × (length (now bytes) ≡ 32768))) ⌝ }
 {
     let mut shelf = fresh;
     let mut left = from;
@@ -192,7 +193,10 @@ fn answer(
     log: &mut [u8],
     list: &mut [u8],
     bytes: &mut [u8],
-) -> Shelf {
+) -> Shelf
+    requires { ⌜ (fits (shelf .geometry) ≡ true) × (length (now bytes) ≡ 32768) ⌝ }
+    ensures { λ r. ⌜ Served (now (line .entry)) (lent shelf (now (array .entry)) (now (log .entry)) (now (list .entry))) (lent r (now (array .exit)) (now (log .exit)) (now (list .exit))) ⌝ }
+{
     let request = lines::requests::read_request(line);
     let done = calls::perform(shelf, request, array, log, list, bytes);
     output::print_answer(request, done);

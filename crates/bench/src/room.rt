@@ -1,4 +1,5 @@
-// The room that the bench program has: 32,768 bytes for array, log and list together, and as many for the data of a call.
+// The room that the bench program has: array, log and list together have 32,768 bytes at most, and so have the data of a call. Each has a
+// buffer of its own of that size, of which a part is lent.
 use shelf::record::Geometry;
 ghost use mathlib.Core.Path.{_≡_};
 ghost use Prim.Native.Nat.{_+_, _≤_};
@@ -8,9 +9,9 @@ ghost use Rattle.shelf.specs.Lent.{arrayLength, logLength, listLength};
 ghost use Rattle.bench.specs.Bench.{fits, dataLength};
 
 // The room in bytes.
-pub const ROOM: usize = 32768;
+const ROOM: usize = 32768;
 
-// Zeros, as many as there is room for.
+// A buffer, of zeros.
 pub fn buffer() -> [u8; 32768]
     ensures { λ r. ⌜ 32768 ≡ length r ⌝ }
 {

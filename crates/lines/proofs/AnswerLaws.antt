@@ -1,22 +1,19 @@
 -- Laws of lines that are written: numbers in decimal, which can be read back, and text put together in a buffer.
 -- Assumes nothing.
-use mathlib.Core.Bool.{Bool, true, false, _&&_}
+use mathlib.Core.Bool.{Bool, true, false}
 use mathlib.Core.List.{List, [], _∷_, _++_, append-assoc, append-nil}
 use mathlib.Core.Path.{_≡_, refl, sym, ap, ap₂, _∙_, subst}
 use Prim.Native.Nat.{ℕ, zero, suc, _+_, _*_, _-_, _/_, _%_, _^_, _≤_, _<_}
-use native.Mathlib.Nat.{mul-assoc, mul-one, add-mul, add-zero, pow-zero, pow-suc, pow-succ'}
+use native.Mathlib.Nat.{mul-assoc, mul-one, add-zero, pow-zero, pow-suc, pow-succ'}
 use native.Mathlib.Numerals.{add-one}
 use native.Mathlib.Decide.{decLt}
 use native.Mathlib.Omega.{arith}
-use lib.Dec.{ltb}
 use lib.ListN.{length, take, drop, getD, set, length-append, length-drop, take-append-drop}
-use lib.Seq.{set-split, length-take-le, take-at, drop-at, drop-drop, drop-append-add, take-suc}
+use lib.Seq.{set-split, length-take-le, take-at, drop-at, drop-drop, take-suc}
 use borrow.Author.Tests.{lt-ltb, le-ltb, le-leb}
 use Rattle.lines.specs.Fields.{isDigit, allDigits, numberOf, limit, isValue}
-use Rattle.lines.specs.AnswerLines.{digits, decimal, spelled, nameOf}
+use Rattle.lines.specs.AnswerLines.{digits, decimal, spelled}
 use Rattle.lines.specs.Walking.{Puts}
-use Rattle.lines.specs.declared.requests.Request.{Request}
-use Rattle.lines.specs.declared.requests.Request.the-variants.{Start, Write, Read, Fail, Resync, Rebuild, NewLog, FullResync, Unreadable}
 use Rattle.lines.proofs.TestLaws.{and-left, and-right}
 
 -- ---- numbers in decimal
@@ -171,19 +168,6 @@ blanked-more ns i h = rw (add-one i, take-suc ns i 0 h) (sym (blanked-last (take
 -- one byte more
 pub word-more : (w : List ℕ) (i : ℕ) → i < length w → take i w ++ (getD w i 0 ∷ []) ≡ take (i + 1) w
 word-more w i h = rw (add-one i) (sym (take-suc w i 0 h))
-
--- a name has seven bytes at most
-pub name-short : (r : Request) → length (nameOf r) ≤ 7
-unfolding nameOf
-name-short Start = omega arith
-name-short (Write a n v) = omega arith
-name-short (Read a n) = omega arith
-name-short (Fail j) = omega arith
-name-short Resync = omega arith
-name-short Rebuild = omega arith
-name-short NewLog = omega arith
-name-short FullResync = omega arith
-name-short Unreadable = omega arith
 
 -- text put at the start of a buffer fits in it
 pub puts-within : {out text fin : List ℕ} {e : ℕ} → Puts out 0 text fin e → length fin ≡ length out → e ≤ length out

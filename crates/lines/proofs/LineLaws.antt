@@ -1,8 +1,8 @@
 -- Laws of lines: what is found by going through a line field by field is what the line says.
 -- Assumes nothing.
-use mathlib.Core.Bool.{Bool, true, false, cond, _&&_, true≢false}
+use mathlib.Core.Bool.{true, false, _&&_}
 use mathlib.Core.List.{List, [], _∷_}
-use mathlib.Core.Logic.{_⊎_, inl, inr, ⊎-elim}
+use mathlib.Core.Logic.{_⊎_, ⊎-elim}
 use mathlib.Core.Path.{_≡_, refl, sym, ap, _∙_, subst}
 use Prim.Native.Nat.{ℕ, zero, suc, _+_, _-_, _≤_, _<_}
 use native.Mathlib.Nat.{sub-zero}
@@ -20,7 +20,7 @@ use Rattle.lines.specs.declared.requests.Request.{Request}
 use Rattle.lines.specs.declared.requests.Request.the-variants as Request
 use Rattle.lines.specs.declared.measures.Measures.{Measures}
 use Rattle.lines.specs.declared.measures.Measures.the-variants as Measures
-use Rattle.lines.proofs.TestLaws.{either-way, and-left, and-right, and-false}
+use Rattle.lines.proofs.TestLaws.{either-way, and-left, and-right}
 use Rattle.lines.proofs.FieldLaws.{grown, fields-full, value-empty}
 
 -- ---- one field

@@ -1,6 +1,6 @@
--- The lines that are written: numbers in decimal, the line of names, and a line for each answer.
+-- The lines that are written of answers: a name, and numbers in decimal.
 -- Assumes nothing.
-use mathlib.Core.Bool.{Bool, true, false}
+use mathlib.Core.Bool.{true, false}
 use mathlib.Core.List.{List, [], _∷_, _++_}
 use Prim.Native.Nat.{ℕ, zero, suc, _+_, _/_, _%_}
 use lib.Dec.{ltb}

@@ -1,9 +1,9 @@
 // Lines that are written: a name, then numbers in decimal, split by single blanks, and a newline.
 use super::requests;
-ghost use mathlib.Core.List.{_++_, _∷_};
+ghost use mathlib.Core.List.{_∷_};
 ghost use mathlib.Core.Path.{_≡_};
 ghost use Prim.Native.Nat.{_+_, _*_, _≤_};
-ghost use lib.ListN.{length};
+ghost use lib.ListN.{length, take};
 ghost use Rattle.lines.specs.AnswerLines.{decimal, spelled, nameOf, answerLine, formatLine};
 ghost use Rattle.lines.specs.Walking.{Puts};
 
@@ -17,12 +17,21 @@ pub struct Answer {
     pub first: usize,
 }
 
+// A name: the first len of its bytes.
+struct Name {
+    len: usize,
+    bytes: [u8; 7],
+}
+
 // Puts the line of an answer to a request at the start of out, and answers how long it is.
 pub fn put_answer(out: &mut [u8], request: requests::Request, a: Answer) -> usize
     requires { ⌜ 128 ≤ length (now out) ⌝ }
     ensures { λ r. ⌜ Puts (now (out .entry)) 0 (answerLine request a) (now (out .exit)) r ⌝ }
 {
-    let at = put_name(out, request);
+    let name = name_of(request);
+    let n = name.len;
+    let bytes = name.bytes;
+    let at = put_word(out, &bytes[..n]);
     let columns = [a.code, a.mode, a.listed, a.next, a.first];
     put_numbers(out, at, &columns)
 }
@@ -37,21 +46,47 @@ pub fn put_format(out: &mut [u8], code: usize) -> usize
     put_numbers(out, at, &columns)
 }
 
-// Puts the name of a request at the start of out, and answers where it ends.
-fn put_name(out: &mut [u8], request: requests::Request) -> usize
-    requires { ⌜ 128 ≤ length (now out) ⌝ }
-    ensures { λ r. ⌜ Puts (now (out .entry)) 0 (nameOf request) (now (out .exit)) r ⌝ }
+// The name of a request; `bad` of a line that can't be read.
+fn name_of(request: requests::Request) -> Name
+    ensures { λ r. ⌜ (take (r .len) (r .bytes) ≡ nameOf request) × ((r .len ≤ length (r .bytes)) × (r .len ≤ 7)) ⌝ }
 {
     match request {
-        requests::Request::Start => put_word(out, b"start"),
-        requests::Request::Write(_, _, _) => put_word(out, b"write"),
-        requests::Request::Read(_, _) => put_word(out, b"read"),
-        requests::Request::Fail(_) => put_word(out, b"fail"),
-        requests::Request::Resync => put_word(out, b"resync"),
-        requests::Request::Rebuild => put_word(out, b"rebuild"),
-        requests::Request::NewLog => put_word(out, b"newlog"),
-        requests::Request::FullResync => put_word(out, b"full"),
-        requests::Request::Unreadable => put_word(out, b"bad"),
+        requests::Request::Start => Name {
+            len: 5,
+            bytes: *b"start\0\0",
+        },
+        requests::Request::Write(_, _, _) => Name {
+            len: 5,
+            bytes: *b"write\0\0",
+        },
+        requests::Request::Read(_, _) => Name {
+            len: 4,
+            bytes: *b"read\0\0\0",
+        },
+        requests::Request::Fail(_) => Name {
+            len: 4,
+            bytes: *b"fail\0\0\0",
+        },
+        requests::Request::Resync => Name {
+            len: 6,
+            bytes: *b"resync\0",
+        },
+        requests::Request::Rebuild => Name {
+            len: 7,
+            bytes: *b"rebuild",
+        },
+        requests::Request::NewLog => Name {
+            len: 6,
+            bytes: *b"newlog\0",
+        },
+        requests::Request::FullResync => Name {
+            len: 4,
+            bytes: *b"full\0\0\0",
+        },
+        requests::Request::Unreadable => Name {
+            len: 3,
+            bytes: *b"bad\0\0\0\0",
+        },
     }
 }
 

@@ -1,7 +1,10 @@
-use lib.Seq.{length-take-le}
 -- `bench::answer_all` is safe and ends. The loop's invariant: the buffers keep their lengths, and what is still to be taken is within the chunk.
 -- Assumes nothing.
-use mathlib.Core.Path.{_≡_, sym, _∙_}
+use native.Mathlib.Omega.{arith}
+use Rattle.bench.specs.Bench.{fits}
+use Rattle.bench.proofs.BenchLaws.{performed-geometry}
+use lib.Seq.{length-take-le}
+use mathlib.Core.Path.{_≡_, sym, ap, _∙_}
 use Prim.Native.Nat.{_≤_}
 use lib.ListN.{length}
 use borrow.Author.Needs.{needs}
@@ -10,8 +13,8 @@ use Rattle.bench.proofs.answer_all.Tie as tie
 
 abbrev Inv-loop : tie.InvT-loop
 Inv-loop chunk₀ line₀ array₀ log₀ list₀ bytes₀ shelf₀ left₀ turns₀ chunk line array log list bytes shelf left turns =
-    (((length chunk ≡ length chunk₀) × (length line ≡ length line₀)) × ((length array ≡ length array₀) × (length log ≡ length log₀)))
-    × (((length list ≡ length list₀) × (length bytes ≡ length bytes₀)) × (left .to ≤ length chunk))
+    ((((length chunk ≡ length chunk₀) × (length line ≡ length line₀)) × ((length array ≡ length array₀) × (length log ≡ length log₀)))
+    × (((length list ≡ length list₀) × (length bytes ≡ length bytes₀)) × (left .to ≤ length chunk))) × (shelf .geometry ≡ shelf₀ .geometry)
 
 abbrev μ-loop : tie.MeasureT-loop
 μ-loop chunk₀ line₀ array₀ log₀ list₀ bytes₀ shelf₀ left₀ turns₀ chunk line array log list bytes shelf left turns = turns
@@ -50,21 +53,28 @@ slice-aggregate-answer : tie.Need-slice-aggregate-answer Inv-loop μ-loop
 slice-aggregate-answer c = sym (length-take-le _ _ (c .before .before .before .before .before .before .before .read-line .ensures .0))
 
 answer-requires : tie.Need-answer-requires Inv-loop μ-loop
-answer-requires c κs = search needs
+answer-requires c κs =
+    let l = c .before .before .before .before .before .before .before .before .before .before .before .before .before .before .before .loop .inv in
+    let p = c .before .before .before .before .before .before .before .before .before .before .before .before .before .before .before .before .before .before .before .before .before .before .pre in
+    (ap fits (l .1) ∙ p .0, l .0 .1 .0 .1 ∙ p .1 .1 .1)
 
 sub-turns : tie.Need-sub-turns Inv-loop μ-loop
-sub-turns c = search needs
+sub-turns c = omega (arith, c .before .before .before .before .before .before .before .before .before .before .before .before .before .before .before .before .before .before .before .before .before .before .before .before .loop-test .taken)
 
 loop-less : tie.Need-loop-less Inv-loop μ-loop
-loop-less c = search needs
+loop-less c = omega (arith, c .before .before .before .before .before .before .before .before .before .before .before .before .before .before .before .before .before .before .before .before .before .before .before .before .loop-test .taken)
 
 loop-again : tie.Need-loop-again Inv-loop μ-loop
 loop-again c =
     let l = c .before .before .before .before .before .before .before .before .before .before .before .before .before .before .before .before .before .before .before .before .before .before .before .before .before .loop .inv in
     let r = c .before .before .before .before .before .before .before .before .before .before .before .before .before .before .before .before .before .before .before .before .before .read-line in
-    let a = c .before .before .before .before .before .before .before .before .before .answer .kept .1 .1 in (
-      ((r .kept .0 ∙ l .0 .0 .0, r .kept .1 .0 ∙ l .0 .0 .1), (a .0 ∙ l .0 .1 .0, a .1 .0 ∙ l .0 .1 .1)),
-      ((a .1 .1 .0 ∙ l .1 .0 .0, a .1 .1 .1 .0 ∙ l .1 .0 .1), r .ensures .1),
+    let b = c .before .before .before .before .before .before .before .before .before .answer in
+    let a = b .kept .1 .1 in (
+      (
+        ((r .kept .0 ∙ l .0 .0 .0 .0, r .kept .1 .0 ∙ l .0 .0 .0 .1), (a .0 ∙ l .0 .0 .1 .0, a .1 .0 ∙ l .0 .0 .1 .1)),
+        ((a .1 .1 .0 ∙ l .0 .1 .0 .0, a .1 .1 .1 .0 ∙ l .0 .1 .0 .1), r .ensures .1),
+      ),
+      performed-geometry _ _ _ _ _ (b .ensures .performed) ∙ l .1,
     )
 
 same-length-7 : tie.Need-same-length-7 Inv-loop μ-loop

@@ -1,6 +1,6 @@
 -- `bench::lend` is safe and ends.
 -- Assumes nothing.
-use mathlib.Core.Path.{sym}
+use mathlib.Core.Path.{sym, _∙_}
 use lib.Seq.{length-take-le}
 use Rattle.bench.proofs.BenchLaws.{fitting, rooms, part-within}
 use borrow.Author.Needs.{needs}
@@ -29,13 +29,18 @@ slice-aggregate-serve-2 : tie.Need-slice-aggregate-serve-2
 slice-aggregate-serve-2 c = sym (length-take-le _ _ (part-within _ _ (c .before .before .before .before .before .before .before .before .before .before .before .before .before .args .log .now) (c .before .before .before .before .before .log-length .ensures .0) (rooms _ (c .before .before .before .before .before .before .before .before .before .before .before .before .before .pre .0) .1 .0) (c .before .before .before .before .before .before .before .before .before .before .before .before .before .pre .1 .1 .1 .1 .0)))
 
 slice-relend-prefix-serve-3 : tie.Need-slice-relend-prefix-serve-3
-slice-relend-prefix-serve-3 c = part-within _ _ (c .before .before .before .before .before .before .before .before .before .before .before .before .before .args .list .now) (c .before .before .before .before .list-length .ensures .0) (rooms _ (c .before .before .before .before .before .before .before .before .before .before .before .before .before .pre .0) .1 .1) (c .before .before .before .before .before .before .before .before .before .before .before .before .before .pre .1 .1 .1 .1 .1)
+slice-relend-prefix-serve-3 c = part-within _ _ (c .before .before .before .before .before .before .before .before .before .before .before .before .before .args .list .now) (c .before .before .before .before .list-length .ensures .0) (rooms _ (c .before .before .before .before .before .before .before .before .before .before .before .before .before .pre .0) .1 .1) (c .before .before .before .before .before .before .before .before .before .before .before .before .before .pre .1 .1 .1 .1 .1 .0)
 
 slice-aggregate-serve-3 : tie.Need-slice-aggregate-serve-3
-slice-aggregate-serve-3 c = sym (length-take-le _ _ (part-within _ _ (c .before .before .before .before .before .before .before .before .before .before .before .before .before .before .args .list .now) (c .before .before .before .before .before .list-length .ensures .0) (rooms _ (c .before .before .before .before .before .before .before .before .before .before .before .before .before .before .pre .0) .1 .1) (c .before .before .before .before .before .before .before .before .before .before .before .before .before .before .pre .1 .1 .1 .1 .1)))
+slice-aggregate-serve-3 c = sym (length-take-le _ _ (part-within _ _ (c .before .before .before .before .before .before .before .before .before .before .before .before .before .before .args .list .now) (c .before .before .before .before .before .list-length .ensures .0) (rooms _ (c .before .before .before .before .before .before .before .before .before .before .before .before .before .before .pre .0) .1 .1) (c .before .before .before .before .before .before .before .before .before .before .before .before .before .before .pre .1 .1 .1 .1 .1 .0)))
 
 serve-requires : tie.Need-serve-requires
-serve-requires c κs = search needs
+serve-requires c κs =
+    let p = c .before .before .before .before .before .before .before .before .before .before .before .before .before .before .before .pre in
+    let a = length-take-le _ _ (part-within _ _ (c .before .before .before .before .before .before .before .before .before .before .before .before .before .before .before .args .array .now) (c .before .before .before .before .before .before .before .before .array-length .ensures .0) (rooms _ (c .before .before .before .before .before .before .before .before .before .before .before .before .before .before .before .pre .0) .0) (c .before .before .before .before .before .before .before .before .before .before .before .before .before .before .before .pre .1 .1 .1 .0)) ∙ c .before .before .before .before .before .before .before .before .array-length .ensures .0 in
+    let l = length-take-le _ _ (part-within _ _ (c .before .before .before .before .before .before .before .before .before .before .before .before .before .before .before .args .log .now) (c .before .before .before .before .before .before .before .log-length .ensures .0) (rooms _ (c .before .before .before .before .before .before .before .before .before .before .before .before .before .before .before .pre .0) .1 .0) (c .before .before .before .before .before .before .before .before .before .before .before .before .before .before .before .pre .1 .1 .1 .1 .0)) ∙ c .before .before .before .before .before .before .before .log-length .ensures .0 in
+    let t = length-take-le _ _ (part-within _ _ (c .before .before .before .before .before .before .before .before .before .before .before .before .before .before .before .args .list .now) (c .before .before .before .before .before .before .list-length .ensures .0) (rooms _ (c .before .before .before .before .before .before .before .before .before .before .before .before .before .before .before .pre .0) .1 .1) (c .before .before .before .before .before .before .before .before .before .before .before .before .before .before .before .pre .1 .1 .1 .1 .1 .0)) ∙ c .before .before .before .before .before .before .list-length .ensures .0 in
+    (p .0, (p .1 .0, (p .1 .1 .0, (a, (l, (t, p .1 .1 .1 .1 .1 .1))))))
 
 same-length : tie.Need-same-length
 same-length c = search needs

@@ -1,6 +1,9 @@
 -- `bench::serve` is safe and ends.
 -- Assumes nothing.
-use mathlib.Core.Path.{_∙_}
+use Rattle.shelf.specs.Lent.{Lent}
+use Rattle.bench.specs.Bench.{fits}
+use Rattle.bench.proofs.BenchLaws.{format-geometry}
+use mathlib.Core.Path.{ap, _∙_}
 use borrow.Author.Needs.{needs}
 use Rattle.bench.proofs.serve.Statement.{statement}
 use Rattle.bench.proofs.serve.Tie as tie
@@ -17,7 +20,9 @@ read-line-requires c κs = search needs
 answer-all-requires : tie.Need-answer-all-requires
 answer-all-requires c κs =
     let r = c .before .before .before .before .before .before .before .before .before .before .read-line in
-    (r .kept .1 .0 ∙ c .before .before .before .before .before .before .before .before .before .before .before .before .before .before .before .before .before .before .before .before .before .before .before .before .before .before .before .before .before .before .pre .0, r .ensures .1)
+    let p = c .before .before .before .before .before .before .before .before .before .before .before .before .before .before .before .before .before .before .before .before .before .before .before .before .before .before .before .before .before .before .pre in
+    let g = ap (λ (h : Lent). h .shelf .geometry) (c .before .before .before .before .before .before .before .before .before .before .before .before .before .before .before .before .before .before .before .before .shelf-format .ensures .1) ∙ format-geometry _ in
+    (ap fits g ∙ p .0, (r .ensures .1, (r .kept .1 .0 ∙ p .1 .1 .0, p .1 .1 .1 .1 .1 .1)))
 
 same-length : tie.Need-same-length
 same-length c = search needs

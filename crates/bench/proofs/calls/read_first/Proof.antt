@@ -3,7 +3,7 @@
 use mathlib.Core.Path.{sym, _∙_}
 use lib.Seq.{length-take-le}
 use Rattle.bench.specs.Bench.{firstRead}
-use Rattle.bench.proofs.BenchLaws.{part-length, first-found}
+use Rattle.bench.proofs.BenchLaws.{part-length, first-found, read-as-asked}
 use borrow.Author.Needs.{needs}
 use Rattle.bench.proofs.calls.read_first.Statement.{statement}
 use Rattle.bench.proofs.calls.read_first.Tie as tie
@@ -39,8 +39,9 @@ unfolding firstRead
 returns c =
     let d = c .before .before .before .before .before .before .before .data-length in
     let r = c .before .before .before .before .before .shelf-read in
+    let p = c .before .before .before .before .before .before .before .before .before .before .before .before .before .pre in
     let b = c .before .before .before .before .before .before .before .before .before .before .before .before .before .args .bytes .now in (
-      rw (length-take-le (d .result) b (d .ensures .1) ∙ d .ensures .0) at (r .ensures .0),
+      read-as-asked _ _ _ _ _ _ _ (p .0) (p .1) (length-take-le (d .result) b (d .ensures .1) ∙ d .ensures .0) (r .ensures .0),
       c .first-of .ensures ∙ first-found _ (d .result) b (r .last .1 .1 .1 .0) _ (d .ensures .1) (r .kept .1 .1 .1 .0) (r .ensures .1 .0),
     )
 

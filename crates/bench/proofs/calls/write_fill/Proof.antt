@@ -2,7 +2,7 @@
 -- Assumes nothing.
 use mathlib.Core.Path.{refl, sym}
 use lib.Seq.{length-take-le}
-use Rattle.bench.proofs.BenchLaws.{filled, part-length}
+use Rattle.bench.proofs.BenchLaws.{filled, part-length, write-as-asked}
 use borrow.Author.Needs.{needs}
 use Rattle.bench.proofs.calls.write_fill.Statement.{statement}
 use Rattle.bench.proofs.calls.write_fill.Tie as tie
@@ -48,8 +48,9 @@ same-length-4 c = search needs
 returns : tie.Need-returns
 returns c =
     let d = c .before .before .before .before .before .before .before .before .before .before .before .before .before .before .before .before .data-length in
+    let p = c .before .before .before .before .before .before .before .before .before .before .before .before .before .before .before .before .before .before .before .before .before .before .pre in
     rw (c .told .ensures)
-    (rw (filled _ _ _ _ _ (d .ensures .1) (c .before .before .before .before .before .before .before .before .before .before .before .before .before .before .fill .ensures) (d .ensures .0)) at (c .before .before .before .before .before .before .before .shelf-write .ensures), refl)
+    (write-as-asked _ _ _ _ _ _ _ _ (p .0) (p .1) (filled _ _ _ _ _ (d .ensures .1) (c .before .before .before .before .before .before .before .before .before .before .before .before .before .before .fill .ensures) (d .ensures .0)) (c .before .before .before .before .before .before .before .shelf-write .ensures), refl)
 
 pub write-fill-spec : {M : Type 1} → statement M
 write-fill-spec =

@@ -7,11 +7,11 @@ use borrow.Author.Needs.{needs}
 use Rattle.bench.proofs.output.print_answer.Statement.{statement}
 use Rattle.bench.proofs.output.print_answer.Tie as tie
 
-cast-t7 : tie.Need-cast-t7
-cast-t7 c = search needs
-
 slice-aggregate-put-answer : tie.Need-slice-aggregate-put-answer
 slice-aggregate-put-answer c = search needs
+
+answer-of-requires : tie.Need-answer-of-requires
+answer-of-requires c κs = search needs
 
 put-answer-requires : tie.Need-put-answer-requires
 put-answer-requires c κs = search needs
@@ -36,8 +36,8 @@ pub print-answer-spec : {M : Type 1} → statement M
 print-answer-spec =
     tie.close
     (tie.spec
-    cast-t7
     slice-aggregate-put-answer
+    answer-of-requires
     put-answer-requires
     array-share-prefix-out
     slice-aggregate-write-all

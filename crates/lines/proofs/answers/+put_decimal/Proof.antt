@@ -1,10 +1,9 @@
-use lib.ListN.{length, length-set}
+use lib.ListN.{length-set}
 use mathlib.Core.Path.{_≡_, sym, ap, _∙_}
 use mathlib.Core.List.{_∷_, []}
 -- `lines::answers::put_decimal` meets its contract, and calls itself on ever smaller numbers.
 -- Assumes nothing.
 use native.Mathlib.Omega.{arith}
-use Rattle.lines.specs.Walking.{Puts}
 use Rattle.lines.proofs.AnswerLaws.{decimal-few, decimal-more, decimal-one, decimal-longer, puts-byte, puts-then, puts-text}
 use Prim.Native.Nat.{ℕ, _+_, _%_, _<_}
 use borrow.Fn.Kinds.{In}

@@ -2,7 +2,7 @@ use lib.ListN.{length-set}
 use lib.Seq.{take-all}
 -- `lines::answers::put_word` meets its contract. The loop's invariant: the first i bytes of the word are put.
 -- Assumes nothing.
-use mathlib.Core.Path.{_≡_, refl, sym, _∙_}
+use mathlib.Core.Path.{_≡_, refl}
 use Prim.Native.Nat.{_-_, _≤_}
 use native.Mathlib.Omega.{arith}
 use lib.ListN.{length, take}

@@ -1,6 +1,6 @@
 -- `lines::measures::read_measures` meets its contract.
 -- Assumes nothing.
-use mathlib.Core.Path.{sym, _∙_}
+use mathlib.Core.Path.{sym}
 use Rattle.lines.specs.Fields.{limit}
 use Rattle.lines.specs.MeasureLines.{measuresLine}
 use Rattle.lines.proofs.TestLaws.{all-below, not-below}
