@@ -101,11 +101,12 @@ fn missing_value(line: &mut Line, random: &mut Random) {
 /// White space other than a blank: in place of a blank, or at either end of a field.
 fn white_space(line: &mut Line, random: &mut Random) {
     let white = if random.below(2) == 0 { 9 } else { WHITE[pick(WHITE.len(), random)] };
-    let at = pick(line.fields.len() - 1, random);
+    let count = line.fields.len();
     match random.below(4) {
-        0 => line.fields[at].insert(0, white),
-        1 => line.fields[at + 1].push(white),
+        0 => line.fields[pick(count, random)].insert(0, white),
+        1 => line.fields[pick(count, random)].push(white),
         _ => {
+            let at = pick(count - 1, random);
             let next = line.fields.remove(at + 1);
             line.fields[at].push(white);
             line.fields[at].extend(next);
