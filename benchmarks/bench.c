@@ -1,7 +1,7 @@
-/* The benchmark: this library's calls against ISA-L, plain C rows and memcpy, and those that change
-   a list against one that only tests it. It compares all results, then times all variants in one
-   interleaved run and prints in Markdown how fast the library is beside each of them.
-   `benchmarks/run` builds and runs it. */
+/* The benchmark: this library's calls against ISA-L, plain C rows and memcpy, those that change a list
+   against one that only tests it, and that one against a test in plain C. It compares all results, then
+   times all variants in one interleaved run and prints in Markdown how fast the library is beside each of
+   them. `benchmarks/run` builds and runs it. */
 #define _POSIX_C_SOURCE 200809L
 
 #include "bench.h"

@@ -12,13 +12,15 @@
 #define SEED 285u
 #define DATA_BYTES ((size_t)16 << 20) /* the data blocks of an array, rounded up to a whole stripe */
 
-enum { MOST_DATA = 16, MOST_VARIANTS = 9, MOST_ROUNDS = 200 };
+enum { MOST_DATA = 16, MOST_VARIANTS = 10, MOST_ROUNDS = 200 };
 
-/* A stripe's works, those of a shelf over its whole array, and those of a shelf with blocks listed. */
+/* A stripe's works, those of a shelf over its whole array, those of a shelf with blocks listed, and the
+   test of the list alone. */
 enum work {
     PARITY, ONE_BLOCK, TWO_BLOCKS, ALL_STRIPES,
     WRITE, READ, READ_ONE, READ_TWO, REBUILD_ONE, REBUILD_TWO, REBUILD_PARITY, FULL_RESYNC,
     LOG_AGAIN, LOG_NEW, RESYNC,
+    TEST,
     WORKS,
     SHELF_WORKS = WRITE, LIST_WORKS = LOG_AGAIN /* the first of a kind */
 };
@@ -33,9 +35,11 @@ struct job {
 
     /* Of an array: the data blocks in the order of their addresses, the record, the log, the list. */
     uint8_t *data, *log, *list;
+    uint32_t h; /* the list's slots */
     struct shelf_record record;
 
-    /* With blocks listed: how many, the list as it is before each call, the block that is written. */
+    /* With blocks listed: how many, the list as it is before each call that changes it, the block that is
+       written. */
     uint32_t listed;
     uint8_t *list_before;
     size_t address;
@@ -59,7 +63,7 @@ struct line {
 };
 
 /* The variants (variants.c): this library first, then the one that results are held to, then the
-   other peers. The last is a call that only tests the list. */
+   other peers. The last is a call that only tests the list, the one before it the C test of the list. */
 extern const struct variant variants[];
 extern const unsigned variant_count;
 
@@ -70,11 +74,16 @@ void turn_to(const struct job *job);
 double run_batch(const struct variant *v, const struct job *job, uint64_t calls);
 
 /* The lines (jobs.c): by work, then by measures, and those with blocks listed by their number at
-   last. They are made, and each variant's results compared with what they must be. */
-enum { MEASURES = 4, COUNTS = 3 };
-enum { LIST_LINES = LIST_WORKS * MEASURES, LINES = LIST_LINES + (WORKS - LIST_WORKS) * MEASURES * COUNTS };
+   last; those of the test of the list are by d, then by slots, then by that number. They are made, and
+   each variant's results compared with what they must be. */
+enum { MEASURES = 4, COUNTS = 3, TEST_WIDTHS = 2, TEST_SLOTS = 3 };
+enum {
+    LIST_LINES = LIST_WORKS * MEASURES,
+    TEST_LINES = LIST_LINES + (TEST - LIST_WORKS) * MEASURES * COUNTS,
+    LINES = TEST_LINES + TEST_WIDTHS * TEST_SLOTS * COUNTS
+};
 extern struct line lines[LINES];
-extern const uint32_t counts[COUNTS];
+extern const uint32_t counts[COUNTS], test_counts[COUNTS];
 void make_lines(void);
 void check(const struct line *line);
 void compare(const struct line *line, const char *who);
@@ -85,13 +94,15 @@ void print_report(unsigned rounds);
 
 /* The shelf (shelf.c): what it is lent beside the array, and this library's calls. The log has
    records for the originals and the latest values of all that can be listed, and those of one write
-   more. format and start change the job's record; log_block hands back the record after it. */
+   more; the slots are the job's, SLOTS at most. format and start change the job's record; log_blocks
+   hands back the record after it. ours_passes tells whether the list gets another number than 3. */
 enum { SLOTS = 256, PLACES = 4096, LOG_RECORDS = 2 * PLACES + 2 };
-enum { LIST_BYTES = 4 * SLOTS + 16 * PLACES };
+size_t list_len(const struct job *job);
 void format(struct job *job);
 void start(struct job *job);
 void set_list(const struct job *job);
-struct shelf_record log_block(const struct job *job, size_t address);
+struct shelf_record log_blocks(const struct job *job, size_t address, size_t count);
+bool ours_passes(const struct job *job);
 void read_block(const struct job *job, struct shelf_record record, size_t address, uint8_t *to);
 call_of_job ours_write, ours_read, ours_read_lost, ours_rebuild, ours_full_resync, ours_log, ours_resync, ours_test;
 
@@ -110,6 +121,15 @@ struct rows {
     void (*recover_two)(uint32_t d, size_t b, uint32_t x, uint32_t y, uint8_t *stripe);
 };
 extern const struct rows plain_rows, mask_rows;
+
+/* The test of the list in C (list.c): whether a job's list passes, and a call that ends the program where
+   it does not. */
+bool list_passes(const struct job *job);
+call_of_job c_test;
+
+/* Damaged lists (damage.c), which both tests must refuse, and how many there were. */
+extern unsigned damaged_lists;
+void check_tests(const struct job *job);
 
 /* ISA-L (isal.c), linked only where it is installed: each call by the code that ISA-L chooses and by
    that for SSE. isal_prepare comes before a job's calls. */

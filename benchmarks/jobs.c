@@ -7,9 +7,14 @@
 #include <string.h>
 
 #define PAGE ((size_t)4096)
+#define TEST_STRIPES 4096 /* of a shelf whose list is tested; d times it is a multiple of all H */
 
 static const uint32_t measures[MEASURES][2] = {{5, 512}, {5, 4096}, {16, 512}, {16, 4096}};
 const uint32_t counts[COUNTS] = {16, 256, PLACES};
+
+static const uint32_t test_widths[TEST_WIDTHS] = {5, 16}, test_slots[TEST_SLOTS] = {SLOTS, 16, 1};
+const uint32_t test_counts[COUNTS] = {64, 512, PLACES};
+
 struct line lines[LINES];
 
 /* Bytes at the start of a page, all written once. */
@@ -64,15 +69,22 @@ static struct line random_line(enum work work, unsigned m, uint32_t s, uint8_t *
     return line;
 }
 
+/* Lends a job's array a log and a list of so many slots, and makes a fresh shelf of them. */
+static void lend(struct job *job, uint32_t h)
+{
+    job->h = h;
+    job->log = pages((size_t)LOG_RECORDS * job->b);
+    job->list = pages(list_len(job));
+    format(job);
+}
+
 /* A line for a shelf: an array, what it is lent beside it, and the data in the order of addresses. */
 static struct line shelf_line(unsigned m, uint8_t *copy)
 {
     size_t stripe = (size_t)measures[m][0] * measures[m][1];
     struct line line = random_line(ALL_STRIPES, m, (uint32_t)((DATA_BYTES + stripe - 1) / stripe), copy);
     struct job *job = &line.job;
-    job->log = pages((size_t)LOG_RECORDS * job->b);
-    job->list = pages(LIST_BYTES);
-    format(job);
+    lend(job, SLOTS);
     memcpy(job->bytes, line.sound, job->len);
     copy_blocks(job);
     job->data = memcpy(pages(stripe * job->s), copy, stripe * job->s);
@@ -106,7 +118,7 @@ static void keep_listed(struct line *line, const struct line *shelf, enum work w
     job->listed = count;
     job->address = address_of(job, work == LOG_NEW ? count - 1 : count / 2);
     job->record.next = 2 * PLACES;
-    job->list_before = memcpy(pages(LIST_BYTES), job->list, LIST_BYTES);
+    job->list_before = memcpy(pages(list_len(job)), job->list, list_len(job));
 }
 
 /* Makes the lines with blocks listed, as the list of a shelf grows by one write after another. To
@@ -114,18 +126,49 @@ static void keep_listed(struct line *line, const struct line *shelf, enum work w
 static void list_lines(struct line *shelf, unsigned m)
 {
     struct job *job = &shelf->job;
-    job->list = memcpy(pages(LIST_BYTES), job->list, LIST_BYTES);
+    job->list = memcpy(pages(list_len(job)), job->list, list_len(job));
     start(job);
     for (uint32_t n = 0; n <= PLACES; n++) {
-        for (unsigned k = 0; k < (WORKS - LIST_WORKS) * COUNTS; k++) {
+        for (unsigned k = 0; k < (TEST - LIST_WORKS) * COUNTS; k++) {
             enum work work = (enum work)(LIST_WORKS + k / COUNTS);
             struct line *line = &lines[LIST_LINES + (k / COUNTS * MEASURES + m) * COUNTS + k % COUNTS];
             if (n + (work == LOG_NEW) == counts[k % COUNTS])
                 keep_listed(line, shelf, work, counts[k % COUNTS]);
         }
         if (n < PLACES)
-            job->record = log_block(job, address_of(job, n));
+            job->record = log_blocks(job, address_of(job, n), 1);
     }
+}
+
+/* Lists so many blocks of a job's shelf, by writes of scattered stripes. A stripe is listed whole by a
+   reconstruction-write, and the d / 2 + 1 blocks written lack Ori; then about d blocks are listed by
+   read-modify-writes, a few in a stripe, and have both Ori and Cur; and so on. */
+static void list_blocks(struct job *job, uint32_t count)
+{
+    size_t d = job->d, left = count;
+    for (size_t k = 0; k < job->s && left > 0; k++) {
+        bool whole = (count - left) / d % 2 == 0 && left >= d;
+        size_t few = left < d / 4 ? left : d / 4;
+        size_t blocks = whole ? d / 2 + 1 : few;
+        job->record = log_blocks(job, k * 1009 % job->s * d + k % (d - blocks + 1), blocks);
+        left -= whole ? d : few;
+    }
+    if (left > 0 || job->record.listed != count)
+        fail(job, "this library", "another number of blocks is listed");
+}
+
+/* Makes a line for the test of the list: a shelf of blocks of one byte, all zero. */
+static void test_line(struct line *line, uint32_t d, uint32_t h, uint32_t count)
+{
+    *line = (struct line){.job = {.work = TEST, .d = d, .b = 1, .s = TEST_STRIPES, .listed = count}};
+    struct job *job = &line->job;
+    name_members(job);
+    job->len = (size_t)(d + 2) * job->s * job->b;
+    job->bytes = pages(job->len);
+    lend(job, h);
+    line->sound = job->data = memcpy(pages(job->len), job->bytes, job->len);
+    start(job);
+    list_blocks(job, count);
 }
 
 /* Makes all lines. Those of an array share one for each pair of measures. */
@@ -139,6 +182,9 @@ void make_lines(void)
                 w < ALL_STRIPES ? random_line((enum work)w, m, 1, copy) : with_work(&shelf, (enum work)w);
         list_lines(&shelf, m);
     }
+    for (unsigned k = 0; k < LINES - TEST_LINES; k++)
+        test_line(&lines[TEST_LINES + k], test_widths[k / (TEST_SLOTS * COUNTS)], test_slots[k / COUNTS % TEST_SLOTS],
+                  test_counts[k % COUNTS]);
 }
 
 /* Makes bytes differ from what they must be. */
@@ -205,7 +251,7 @@ static void check_logged(const struct line *line, const struct variant *v)
     uint8_t *block = block_at(job, job->address);
     const uint8_t *want = line->sound + (block - job->bytes);
     set_list(job);
-    struct shelf_record after = log_block(job, job->address);
+    struct shelf_record after = log_blocks(job, job->address, 1);
     if (after.listed != job->listed)
         fail(job, v->name, "another number of blocks is listed");
     compare(line, v->name);
@@ -227,11 +273,16 @@ static void check_resync(const struct line *line, const struct variant *v)
     compare(line, v->name);
 }
 
-/* Compares the results of all variants that have one: a copy of all members and a test of the list have none. */
+/* Compares the results of all variants that have one: a copy of all members and a test of the list beside
+   another work have none. */
 void check(const struct line *line)
 {
     enum work work = line->job.work;
     bool reads = work >= READ && work <= READ_TWO;
+    if (work == TEST) {
+        check_tests(&line->job);
+        return;
+    }
     for (unsigned k = 0; k < variant_count; k++) {
         const struct variant *v = &variants[k];
         if (v->call[work] == NULL || v->call[work] == copy_data || v->call[work] == ours_test)

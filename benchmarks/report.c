@@ -21,6 +21,7 @@ static const char *const titles[WORKS] = {
     [LOG_AGAIN] = "`shelf_write` of a block that is listed",
     [LOG_NEW] = "`shelf_write` of a block that is not",
     [RESYNC] = "`shelf_resync`",
+    [TEST] = "test of the list",
 };
 
 static double least_part = 1, most_part = 1; /* how far ratios go from those shown, with other load */
@@ -145,6 +146,17 @@ static void print_list_terms(void)
            " if the block is not listed before it, it is the last of those counted.\n\n", SLOTS, PLACES);
 }
 
+/* The same of the test of the list alone. */
+static void print_test_terms(void)
+{
+    printf("\nThe test of the list alone (`shelf_start` in mode 1, refused with 7), in µs; in brackets, how many times"
+           " as long it takes as a test of the same rules in plain C (gcc %s -O3), a walk over the chains with a bitmap."
+           " The list, of H slots and %d places, is in cache. About half of the blocks listed are in stripes listed"
+           " whole by a reconstruction-write, where the d / 2 + 1 blocks written lack Ori; the others have Ori and Cur."
+           " Before the timing both let every list pass, and refuse %u damaged ones.\n\n",
+           __VERSION__, PLACES, damaged_lists);
+}
+
 /* Whether a variant has a call for one of some lines. */
 static bool takes_part(unsigned v, const struct line *from, const struct line *end)
 {
@@ -195,10 +207,26 @@ static void print_list_table(unsigned rounds)
     for (unsigned c = 0; c < COUNTS; c++)
         printf(" %u listed |", counts[c]);
     printf("\n|---|---|---|---|---|---|\n");
-    for (const struct line *row = lines + LIST_LINES; row < lines + LINES; row += COUNTS) {
+    for (const struct line *row = lines + LIST_LINES; row < lines + TEST_LINES; row += COUNTS) {
         printf("| %s | %u | %u |", titles[row->job.work], row->job.d, row->job.b);
         for (const struct line *line = row; line < row + COUNTS; line++)
             printf(" %.1f (%.1f) |", clear_time(line, 0, rounds) / 1e3, 1 / ratio(line, test, rounds));
+        printf("\n");
+    }
+}
+
+/* Prints the table of the test of the list, a column for each number of blocks listed. */
+static void print_test_table(unsigned rounds)
+{
+    unsigned peer = variant_count - 2;
+    printf("| call | d | H |");
+    for (unsigned c = 0; c < COUNTS; c++)
+        printf(" %u listed |", test_counts[c]);
+    printf("\n|---|---|---|---|---|---|\n");
+    for (const struct line *row = lines + TEST_LINES; row < lines + LINES; row += COUNTS) {
+        printf("| %s | %u | %u |", titles[row->job.work], row->job.d, row->job.h);
+        for (const struct line *line = row; line < row + COUNTS; line++)
+            printf(" %.1f (%.2f) |", clear_time(line, 0, rounds) / 1e3, 1 / ratio(line, peer, rounds));
         printf("\n");
     }
 }
@@ -213,6 +241,8 @@ void print_report(unsigned rounds)
     print_table(lines + SHELF_WORKS * MEASURES, lines + LIST_LINES, rounds);
     print_list_terms();
     print_list_table(rounds);
+    print_test_terms();
+    print_test_table(rounds);
     printf("\nWith whatever else ran at the time, by the median over all rounds, a ratio was %.2f to %.2f times the"
            " one shown.\n", least_part, most_part);
 }

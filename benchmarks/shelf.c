@@ -3,7 +3,7 @@
 
 #include <string.h>
 
-#define BUFFERS(job) (job)->bytes, (job)->len, (job)->log, (size_t)LOG_RECORDS * (job)->b, (job)->list, LIST_BYTES
+#define BUFFERS(job) (job)->bytes, (job)->len, (job)->log, (size_t)LOG_RECORDS * (job)->b, (job)->list, list_len(job)
 
 /* Ends the program unless a call answered the number that it must. */
 static void expect(const struct job *job, size_t code, size_t must)
@@ -12,10 +12,16 @@ static void expect(const struct job *job, size_t code, size_t must)
         fail(job, "this library", "a call of the shelf did not answer what it must");
 }
 
+/* How many bytes the list has. */
+size_t list_len(const struct job *job)
+{
+    return 4 * (size_t)job->h + 16 * PLACES;
+}
+
 /* Makes a fresh shelf of the job's measures. */
 void format(struct job *job)
 {
-    struct shelf_record fresh = {{job->d, job->s, job->b, LOG_RECORDS, SLOTS, PLACES}, 0, 0, 0, {false}};
+    struct shelf_record fresh = {{job->d, job->s, job->b, LOG_RECORDS, job->h, PLACES}, 0, 0, 0, {false}};
     struct shelf_answer a = shelf_format(fresh, BUFFERS(job));
     expect(job, a.code, SHELF_OK);
     job->record = a.shelf;
@@ -32,13 +38,14 @@ void start(struct job *job)
 /* Makes the list what it is before each call. */
 void set_list(const struct job *job)
 {
-    memcpy(job->list, job->list_before, LIST_BYTES);
+    memcpy(job->list, job->list_before, list_len(job));
 }
 
-/* Writes one block, which the shelf logs. Hands back the record after it. */
-struct shelf_record log_block(const struct job *job, size_t address)
+/* Writes blocks of a stripe, which the shelf logs. Hands back the record after it. */
+struct shelf_record log_blocks(const struct job *job, size_t address, size_t count)
 {
-    struct shelf_answer a = shelf_write(job->record, address, 1, job->data + address * job->b, job->b, BUFFERS(job));
+    const uint8_t *data = job->data + address * job->b;
+    struct shelf_answer a = shelf_write(job->record, address, count, data, count * job->b, BUFFERS(job));
     expect(job, a.code, SHELF_OK);
     return a.shelf;
 }
@@ -85,7 +92,7 @@ void ours_full_resync(const struct job *job)
 /* Writes the job's block, which the shelf logs. */
 void ours_log(const struct job *job)
 {
-    log_block(job, job->address);
+    log_blocks(job, job->address, 1);
 }
 
 /* Makes the parity of the lowest stale stripe, which is 0. */
@@ -100,4 +107,13 @@ void ours_resync(const struct job *job)
 void ours_test(const struct job *job)
 {
     expect(job, shelf_start(job->record, BUFFERS(job)).code, SHELF_WRONG_MODE);
+}
+
+/* The same call of a list that may be damaged: whether it passes. */
+bool ours_passes(const struct job *job)
+{
+    size_t code = shelf_start(job->record, BUFFERS(job)).code;
+    if (code != SHELF_BAD_LIST)
+        expect(job, code, SHELF_WRONG_MODE);
+    return code != SHELF_BAD_LIST;
 }

@@ -1,6 +1,6 @@
 /* The variants that are timed: for each work, the call of this library's archives, of ISA-L where
    it is there, by the code that it chooses and by that for SSE, of the C rows with the doubling in
-   two spellings, of memcpy, and of a call that only tests the list. */
+   two spellings, of memcpy, of the C test of the list, and of a call that only tests the list. */
 #include "bench.h"
 #include "stripe.h"
 
@@ -71,7 +71,8 @@ const struct variant variants[] = {
      {[PARITY] = ours_parity, [ONE_BLOCK] = ours_recover, [TWO_BLOCKS] = ours_recover, [ALL_STRIPES] = ours_all,
       [WRITE] = ours_write, [READ] = ours_read, [READ_ONE] = ours_read_lost, [READ_TWO] = ours_read_lost,
       [REBUILD_ONE] = ours_rebuild, [REBUILD_TWO] = ours_rebuild, [REBUILD_PARITY] = ours_rebuild,
-      [FULL_RESYNC] = ours_full_resync, [LOG_AGAIN] = ours_log, [LOG_NEW] = ours_log, [RESYNC] = ours_resync}},
+      [FULL_RESYNC] = ours_full_resync, [LOG_AGAIN] = ours_log, [LOG_NEW] = ours_log, [RESYNC] = ours_resync,
+      [TEST] = ours_test}},
 #ifdef WITH_ISAL
     {"ISA-L pq_gen, xor_gen", true, SUMS_OF(isal)},
     {"the same for SSE", false, SUMS_OF(isal_sse)},
@@ -83,6 +84,7 @@ const struct variant variants[] = {
     {"memcpy", false,
      {[PARITY] = copy_data, [ONE_BLOCK] = copy_data, [TWO_BLOCKS] = copy_data, [ALL_STRIPES] = copy_data,
       [READ] = copy_blocks}},
+    {"C test of the list", false, {[TEST] = c_test}},
     {"list test", false, {[LOG_AGAIN] = ours_test, [LOG_NEW] = ours_test, [RESYNC] = ours_test}},
 };
 const unsigned variant_count = sizeof variants / sizeof variants[0];

@@ -42,9 +42,26 @@
  * The largest shelf has 4,831,838,208 bytes of array, 268,435,456 of log and 66,560 of list.
  *
  * A word has 32 bits, lowest byte first; SHELF_NONE is none. Heads and Next are place numbers or none, Ori and Cur are
- * numbers of log records or none, but not both none. The slot of address a is a mod H: the slot's chain begins at its
- * head and goes on by Next until none. A place is listed if a chain comes to it. An original is the block that P and Q
- * of its stripe were made of. The order of a chain, the choice of the places and what the unlisted ones hold are open.
+ * numbers of log records or none, but not both none. An original is the block that P and Q of its stripe were made of.
+ *
+ * The list has one arrangement. The listed blocks fill the places 0 to listed - 1, which are the listed places, in
+ * rising address; every word of the unused places behind them is none. The slot of address a is a mod H. The slot's
+ * chain begins at its head, goes on by Next until none, and rises: the head is the lowest place whose address is of the
+ * slot, and Next is the next higher place of the slot; either is none if there is no such place. With H 2 and E 4, and
+ * blocks 1, 3 and 4 listed:
+ *
+ *              at   slot      head
+ *     .-------  0     0         2
+ *     |  .----  4     1         0
+ *     |  |
+ *     |  |     at   place   address    Ori    Cur    Next
+ *     |  '--->  8     0         1       0      1       1  --.
+ *     |        24     1         3       2      3     none <-'
+ *     '------> 40     2         4       4      5     none
+ *              56     3       none    none   none    none
+ *
+ * Under the same H and E, equal sets of listed blocks with equal Ori and Cur have equal list bytes. Any other
+ * arrangement gets SHELF_BAD_LIST.
  *
  * What each call stores into the buffers:
  *
@@ -53,15 +70,17 @@
  *     shelf_write         the blocks written; P and Q of a       free records, if a      the entries of the stripes
  *                         stripe that is not logged              stripe is logged        written, if they change
  *     shelf_resync        P and Q of the stripe made             nothing                 the entries of that stripe
- *     shelf_rebuild       the failed data disks; P and Q of      nothing                 all entries dropped, if P or
- *                         every stripe, if P or Q had failed                             Q had failed; else nothing
+ *     shelf_rebuild       the failed data disks; P and Q of      nothing                 all of it, if P or Q had
+ *                         every stripe, if P or Q had failed                             failed; else nothing
  *     shelf_full_resync   P and Q of every stripe                nothing                 all of it
  *     shelf_read          nothing: it stores into the caller's data
  *     shelf_start, shelf_fail, shelf_new_log                     nothing
  *
- * Where entries of the list change, the others say what they said, but may stand in other places. Then, and after
- * shelf_full_resync always, the unlisted places may hold anything. All else keeps its bytes, and a buffer into which a
- * call never stores is const.
+ * Where it says all of it, every byte of array and log becomes 0 and every word of the list none. Where entries of the
+ * list change, it is arranged for the blocks that are then listed: the other entries say what they said, but those of
+ * higher stripes may stand in other places, and heads and Next go with the places. All else keeps its bytes, and a
+ * buffer into which a call never stores is const. So what an accepted call is given determines the record that it hands
+ * back and every byte of array, log and list.
  *
  * Threads: calls that store into none of the shelf's buffers (shelf_read with data of its own, shelf_start, shelf_fail,
  * shelf_new_log) may run at the same time over the same buffers, in any number. Each hands back a record of its own,
@@ -79,10 +98,16 @@
  * newer record can pass every test, and a read then gives an older block. The flags of a record are bytes of 0 or 1: a
  * record that was read from a disk is tested for this by the driver, since a call cannot.
  *
- * Stack: shelf_write needs up to 104 KiB of stack, shelf_resync 52 KiB, shelf_read and shelf_rebuild 8 KiB, the others
- * less than 1 KiB (as compiled here for x86-64), and there is no recursion. Most of it goes to working slices of 48 KiB
- * for the list's entries, two in shelf_write and one in shelf_resync, and in shelf_read and shelf_rebuild to a working
- * block of 4,096 bytes and a table of 256 products.
+ * A shelf of an earlier version may have a list in another arrangement, with anything in its unused places. If no block
+ * is listed, as in mode 0, it is carried over by filling its list with none, every byte 255, before the first call;
+ * without that, calls may answer SHELF_BAD_LIST. If blocks are listed, the earlier version leads it to mode 0 first, by
+ * shelf_resync. Where all array members are sound, shelf_full_resync will do in either case: it does not look at the
+ * list, and leaves none in every word.
+ *
+ * Stack: shelf_write, shelf_read and shelf_rebuild need up to 8 KiB of stack, the others less than 2 KiB (as compiled
+ * here for x86-64), and there is no recursion. In shelf_read and shelf_rebuild most of it goes to a working block of
+ * 4,096 bytes and a table of 256 products. The list is altered where it stands: of its entries no call has more on the
+ * stack than those of one stripe.
  *
  *
  * Calls
@@ -103,14 +128,15 @@
  *     shelf_new_log       takes a new log into use                               1  2  3 12 13
  *     shelf_full_resync   makes the parity of all stripes, empties the list      1  2  8
  *
- * Time: every call but shelf_format and shelf_full_resync tests the whole list. It looks up each listed block in its
- * slot's chain, and the other blocks of a stripe in which one lacks Ori, so the time grows with the count of listed
- * blocks times the length of the chains, which many slots keep short. To alter the list, a call goes through all E
- * places, looks each listed block up again and writes the list anew: shelf_write once for each stripe that is logged or
- * whose entries are dropped, shelf_resync once, after it has gone through the places to find the stripe. A list in
- * another order than the library writes is sorted by insertion when it is altered, by up to E * E / 2 moves. To work a
- * block back by parity, d others are read; if another data block of the stripe is missing too, those that are data are
- * read twice.
+ * Time: every call but shelf_format and shelf_full_resync tests the whole list, by one pass over the E places and one
+ * walk over the slots and their chains. It looks nothing up, so the time grows with E and H, however long the chains
+ * are. To look a block up, a call goes along its slot's chain, which many slots keep short: where blocks are listed,
+ * shelf_write does so for the blocks of each stripe that it writes, shelf_read and shelf_rebuild for the blocks of
+ * stripes in which they give one of a failed disk. shelf_resync looks nothing up: the lowest stale stripe is that of
+ * place 0. To alter the list, a call moves entries to their new places and makes the chains anew: shelf_write
+ * once for each stripe that is logged or whose entries are dropped, shelf_resync once. Nothing is sorted, and the time
+ * grows with H and the count of listed blocks, not with E. To work a block back by parity, d others are read; if
+ * another data block of the stripe is missing too, those that are data are read twice.
  *
  *
  * States
@@ -246,7 +272,7 @@ extern "C" {
 /* The numbers answered, in the order in which they are tried; SHELF_OK where no other applies. */
 #define SHELF_BAD_RECORD 1      /* a measure is outside its range, or the rest of the record is impossible: see below */
 #define SHELF_BAD_LENGTH 2      /* array_len, log_len or list_len is not what the measures ask for */
-#define SHELF_BAD_LIST 3        /* the list is impossible: see below */
+#define SHELF_BAD_LIST 3        /* the list is impossible, or not in its one arrangement: see below */
 #define SHELF_BAD_ADDRESS 4     /* count is 0, or address + count is above d * S, as a sum without overflow */
 #define SHELF_BAD_DATA 5        /* data_len is not count * B */
 #define SHELF_BAD_MEMBER 6      /* the member is above d + 2 */
@@ -270,12 +296,16 @@ extern "C" {
  * shelf_format looks at the measures only. The list gets SHELF_BAD_LIST, from all calls but shelf_format and
  * shelf_full_resync, where
  *
- *   - a chain comes to a place that it or another chain has come to, or to a number that is neither none nor a place;
- *   - the count of the listed places is not listed;
- *   - a listed place has an address that is not below d * S, that belongs to another slot, or that another listed place
- *     has too;
+ *   - the blocks in the list are more or fewer than listed, or do not fill the places from 0 on: one of the places 0 to
+ *     listed - 1 has no address, or a word of a place from listed on is not none;
+ *   - the address of a listed place is not below d * S, or not above that of the place before it: it does not rise, or
+ *     stands twice;
  *   - its Ori or Cur is neither none nor below next, or both are none;
- *   - its Ori is none and a block of its stripe is not listed.
+ *   - its Ori is none and a block of its stripe is not listed;
+ *   - a head or a Next is neither none nor the number of a listed place;
+ *   - a chain comes to a place whose address belongs to another slot, or does not rise: a Next is not above its place,
+ *     as where a chain repeats a place;
+ *   - a listed place is in no chain.
  *
  * Two listed places may have the same log record. After shelf_format, record and list as the calls left them never get
  * SHELF_BAD_RECORD or SHELF_BAD_LIST.
@@ -396,8 +426,8 @@ struct shelf_resynced shelf_resync(struct shelf_record shelf, uint8_t *array, si
  *
  * Answers 0, 1, 2, 3, 12 or 14. With 0, every failed data disk holds what shelf_read would give, and the record handed
  * back has no flag of an array member set; the log's flag is as it was. If P or Q had failed, P and Q of every stripe
- * are made, the list is emptied, and the record has listed 0, next 0 and mode 0. Else the list, listed, next and the
- * mode remain.
+ * are made, no block is listed and every word of the list is none, and the record has listed 0, next 0 and mode 0. Else
+ * the list, listed, next and the mode remain.
  */
 struct shelf_answer shelf_rebuild(struct shelf_record shelf, uint8_t *array, size_t array_len, const uint8_t *log,
                                   size_t log_len, uint8_t *list, size_t list_len);
@@ -413,7 +443,7 @@ struct shelf_answer shelf_new_log(struct shelf_record shelf, const uint8_t *arra
 /* Makes P and Q of every stripe from the data disks as they stand, whatever the list holds, and empties the list: for a
  * list that was lost, or in place of many resyncs.
  *
- * Answers 0, 1, 2 or 8. With 0, no block is listed and every head of the list is none; the record handed back is the
+ * Answers 0, 1, 2 or 8. With 0, no block is listed and every word of the list is none; the record handed back is the
  * given one with listed 0, next 0 and mode 0.
  */
 struct shelf_answer shelf_full_resync(struct shelf_record shelf, uint8_t *array, size_t array_len, const uint8_t *log,

@@ -173,15 +173,36 @@ static void put(size_t offset, uint32_t word)
         list[offset + i] = (uint8_t)(word >> (8 * i));
 }
 
-/* Goes through the numbers that a shelf with a listed block answers: block 1, on place 2. */
+/* On that shelf with a listed block: a word of an unused place that is not none, and the entry on place 2 are refused.
+ * The list as it was is taken again. */
+static int shelf_arranged(struct shelf_record shelf)
+{
+    uint8_t kept[sizeof list];
+
+    memcpy(kept, list, sizeof list);
+    put(4 * 2 + 16 * 3 + 12, 0);
+    if (on(shelf_start, shelf).code != SHELF_BAD_LIST)
+        return 35;
+    memset(list, 255, sizeof list);
+    put(4 * 1, 2);
+    memcpy(list + 4 * 2 + 16 * 2, kept + 4 * 2, 16);
+    if (on(shelf_start, shelf).code != SHELF_BAD_LIST)
+        return 36;
+    memcpy(list, kept, sizeof list);
+    if (on(shelf_start, shelf).code != SHELF_WRONG_MODE)
+        return 37;
+    return 0;
+}
+
+/* Goes through the numbers that a shelf with a listed block answers: block 1, on place 0. */
 static int shelf_listed(struct shelf_record shelf)
 {
     struct shelf_answer answer;
 
-    put(4 * 1, 2);
-    put(4 * 2 + 16 * 2, 1);
-    put(4 * 2 + 16 * 2 + 4, 0);
-    put(4 * 2 + 16 * 2 + 8, 1);
+    put(4 * 1, 0);
+    put(4 * 2, 1);
+    put(4 * 2 + 4, 0);
+    put(4 * 2 + 8, 1);
     shelf.next = 2;
     shelf.listed = 1;
     answer = on(shelf_start, shelf);
@@ -192,10 +213,11 @@ static int shelf_listed(struct shelf_record shelf)
         return 32;
     if (on(shelf_new_log, answer.shelf).code != SHELF_LISTED)
         return 33;
-    put(4 * 2 + 16 * 2 + 8, 2);
+    put(4 * 2 + 8, 2);
     if (on(shelf_start, shelf).code != SHELF_BAD_LIST)
         return 34;
-    return 0;
+    put(4 * 2 + 8, 1);
+    return shelf_arranged(shelf);
 }
 
 /* Formats a shelf, starts it, has members fail, and has each number answered once. */
@@ -249,12 +271,14 @@ static int block_is(size_t member, size_t stripe, uint8_t byte)
 static int blocks_logged(struct shelf_record shelf)
 {
     const uint8_t sevens[5] = {7, 7, 7, 7, 7};
+    const uint8_t logged[24] = {255, 255, 255, 255, 0, 0, 0, 0, 1, 0, 0, 0, 0, 0, 0, 0, 1, 0, 0, 0, 255, 255, 255, 255};
     uint8_t two[10] = {9, 9, 9, 9, 9, 9, 9, 9, 9, 9};
     struct shelf_answer answer = write_blocks(shelf, 1, 1, sevens, sizeof sevens);
 
     if (answer.code != SHELF_OK || !is(answer.shelf, SHELF_ACCELERATING, 2, 1, 0) || !block_is(1, 0, 7))
         return 41;
-    if (!all(log_bytes, 5, 0) || !all(log_bytes + 5, 5, 7) || !block_is(3, 0, 0) || !block_is(4, 0, 0))
+    if (!all(log_bytes, 5, 0) || !all(log_bytes + 5, 5, 7) || !block_is(3, 0, 0) || !block_is(4, 0, 0) ||
+        memcmp(list, logged, sizeof logged) != 0 || !all(list + sizeof logged, sizeof list - sizeof logged, 255))
         return 42;
     shelf = answer.shelf;
     answer = member_of(shelf_fail, member_of(shelf_fail, shelf, 0).shelf, 1);
@@ -286,7 +310,7 @@ static int blocks_resynced(struct shelf_record shelf)
 
     if (resynced.code != SHELF_OK || resynced.stripe != 0 || !is(resynced.shelf, SHELF_NORMAL, 0, 0, 0))
         return 51;
-    if (!block_is(3, 0, 7) || !block_is(4, 0, 14) || !all(list, 8, 255))
+    if (!block_is(3, 0, 7) || !block_is(4, 0, 14) || !all(list, sizeof list, 255))
         return 52;
     resynced = resync(resynced.shelf);
     if (resynced.code != SHELF_WRONG_MODE || resynced.stripe != 2 || !is(resynced.shelf, SHELF_NORMAL, 0, 0, 0))
@@ -301,9 +325,10 @@ static int blocks_resynced(struct shelf_record shelf)
     if (!block_is(3, 0, 6) || !block_is(3, 1, 2) || !block_is(4, 0, 10) || !block_is(4, 1, 2))
         return 56;
     memset(array + 30, 66, 20);
+    memset(list, 66, sizeof list);
     answer = mended(shelf_full_resync, answer.shelf);
     if (answer.code != SHELF_OK || !block_is(3, 0, 6) || !block_is(3, 1, 2) || !block_is(4, 0, 10) ||
-        !block_is(4, 1, 2))
+        !block_is(4, 1, 2) || !all(list, sizeof list, 255))
         return 57;
     if (mended(shelf_rebuild, answer.shelf).code != SHELF_NOT_FAILED)
         return 58;

@@ -27,7 +27,7 @@ pub type Outcome = Result<String, String>;
 type Group = fn(u64) -> Outcome;
 
 /// The groups in the order in which they run.
-const GROUPS: [(&str, Group); 16] = [
+const GROUPS: [(&str, Group); 17] = [
     ("field", field::group),
     ("products", products::group),
     ("examples", examples::group),
@@ -37,6 +37,7 @@ const GROUPS: [(&str, Group); 16] = [
     ("arrays", arrays::group),
     ("printed session", shelf::printed::group),
     ("marked examples", shelf::marked::group),
+    ("list order", shelf::order::group),
     ("sessions", shelf::sessions::group),
     ("tiny shelves", shelf::tiny::group),
     ("random shelves", shelf::random::group),

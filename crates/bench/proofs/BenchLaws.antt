@@ -126,7 +126,6 @@ answered-alike h c c′ code h′ t t′ e e′ x =
     record {
       number = x .number ∙ n c t e ∙ sym (n c′ t′ e′);
       done = λ z. absurd (some z);
-      unaltered = λ z _. absurd (some z);
       refused = x .refused;
     }
 

@@ -1,11 +1,11 @@
 pub mod ListMeaning
-pub mod RewriteLaws
 pub mod ListMarks
 pub mod NumberThree
 pub mod ChainLaws
 pub mod FoundLaws
 pub mod CheckLaws
 pub mod PlaceLaws
+pub mod RowLaws
 pub mod EncodeLaws
 pub mod DecodeLaws
 pub mod PickLaws

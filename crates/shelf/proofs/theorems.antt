@@ -3,4 +3,5 @@ pub mod Demand3
 pub mod FirstNumbers
 pub mod ResyncCount
 pub mod LogReuse
+pub mod OneList
 pub mod Examples

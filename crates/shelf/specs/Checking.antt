@@ -1,40 +1,75 @@
--- The tests as the code makes them, where they are made in another way than the definitions of number 3 and of stale stripes say.
+-- Number 3 as the code tests it: place by place, and chain by chain.
 -- Assumes nothing.
-use Prim.Native.Nat.{ℕ, zero, suc, _+_, _*_, _-_, _/_, _%_}
-use mathlib.Core.Bool.{Bool, true, false, _&&_}
+use Prim.Native.Nat.{ℕ, zero, suc, _+_, _-_, _%_}
+use mathlib.Core.Bool.{Bool, true, false, _&&_, _||_}
 use mathlib.Core.List.{List}
-use lib.Dec.{ltb, eqb}
+use lib.Dec.{ltb, leb, eqb}
+use lib.ListN.{getD}
 use Rattle.shelf.specs.declared.record.Geometry.{Geometry}
 use Rattle.shelf.specs.Counting.{choose}
-use Rattle.shelf.specs.HashList.{noneWord, addressAt, oriAt, curAt, lookup, allListed, goodEntry, passes}
+use Rattle.shelf.specs.HashList.{noneWord, addressAt, oriAt, curAt, nextAt, goodWords}
 
--- ---- a stripe is tested once for a lacking Ori
+-- ---- the places
 
--- the k addresses from b on, from the last to the first: one that is not listed is a fault, the first that lacks Ori answers for the stripe;
--- where all are listed and have Ori, it is as the rest says
-unfoldable pub lowerGood : ℕ → List ℕ → Geometry → ℕ → Bool → Bool
-lowerGood zero w g b rest = rest
-lowerGood (suc k) w g b rest =
-    elim (ltb (lookup w g (b + k)) (g .e))
-    [ true ↦ elim (eqb (oriAt w (g .h) (lookup w g (b + k))) noneWord) [ true ↦ true | false ↦ lowerGood k w g b rest ] | false ↦ false ]
+-- the stripe of address a, in place p of n, stands whole around p: its first block stands as many places before p as a has addresses of its
+-- stripe before it, and its last block d - 1 places on
+unfoldable pub around : List ℕ → Geometry → ℕ → ℕ → ℕ → Bool
+around w g n p a =
+    leb (a % g .d) p
+    && (leb (p - a % g .d + g .d) n
+    && (eqb (addressAt w (g .h) (p - a % g .d)) (a - a % g .d)
+    && eqb (addressAt w (g .h) (p - a % g .d + (g .d - 1))) (a - a % g .d + (g .d - 1))))
 
--- the stripe of address a, from a on: first what is below a, then what is above
-unfoldable pub stripeFrom : List ℕ → Geometry → ℕ → Bool
-stripeFrom w g a = lowerGood (a % g .d) w g (a / g .d * g .d) (allListed (g .d - a % g .d - 1) w g (a + 1))
+-- place p of the n listed is without fault: its address is above that of the place before, its words are good, and where it lacks Ori its stripe
+-- stands whole around it
+unfoldable pub goodPlace : List ℕ → Geometry → ℕ → ℕ → ℕ → Bool
+goodPlace w g next n p =
+    (eqb p 0 || ltb (addressAt w (g .h) (p - 1)) (addressAt w (g .h) p))
+    && (goodWords g next (addressAt w (g .h) p) (oriAt w (g .h) p) (curAt w (g .h) p)
+    && choose (eqb (oriAt w (g .h) p) noneWord) (around w g n p (addressAt w (g .h) p)) true)
 
--- place p in slot i's chain is without fault, where the lowest place of the stripe that lacks Ori answers for the stripe
-unfoldable pub goodLowest : List ℕ → Geometry → ℕ → ℕ → ℕ → Bool
-goodLowest w g next i p =
-    goodEntry w g next i p (addressAt w (g .h) p) (oriAt w (g .h) p) (curAt w (g .h) p)
-    && choose (eqb (oriAt w (g .h) p) noneWord) (stripeFrom w g (addressAt w (g .h) p)) true
+-- every word of place p is none
+unfoldable pub unused : List ℕ → ℕ → ℕ → Bool
+unused w h p =
+    eqb (addressAt w h p) noneWord
+    && (eqb (oriAt w h p) noneWord && (eqb (curAt w h p) noneWord && eqb (nextAt w h p) noneWord))
 
--- number 3 by these tests
-unfoldable pub validLowest : List ℕ → Geometry → ℕ → ℕ → Bool
-validLowest w g next listed = passes (goodLowest w g next) w g listed
+-- place p is as it must be, where the first n are listed
+unfoldable pub fine : List ℕ → Geometry → ℕ → ℕ → ℕ → Bool
+fine w g next n p = choose (ltb p n) (goodPlace w g next n p) (unused w (g .h) p)
 
--- ---- stale stripes
+-- ---- the chains
 
--- the lower of x and the stripe of place p; x where p is not listed
-unfoldable pub lowerStale : List ℕ → Geometry → ℕ → ℕ → ℕ
-lowerStale w g p x =
-    choose (ltb (addressAt w (g .h) p / g .d) x && eqb (lookup w g (addressAt w (g .h) p)) p) (addressAt w (g .h) p / g .d) x
+-- place p in slot i's chain is of that slot, and the chain goes on above it (none is above every place)
+unfoldable pub links : List ℕ → ℕ → ℕ → ℕ → Bool
+links w h i p = eqb (addressAt w h p % h) i && ltb p (nextAt w h p)
+
+-- what a walk along chains comes to: how many places it has met, or a fault
+pub data Walk : Type 0 where
+  All : ℕ → Walk
+  Fault : Walk
+
+-- slot i's chain from place p on, where n places were met before: a place number that is not below e is a fault; so is a place that does not
+-- link up, and so are more than f places
+unfoldable pub follow : ℕ → List ℕ → ℕ → ℕ → ℕ → ℕ → ℕ → Walk
+follow zero w h e i p n = elim (eqb p noneWord) [ true ↦ All n | false ↦ Fault ]
+follow (suc f) w h e i p n =
+    elim (eqb p noneWord) [
+      | true ↦ All n
+      | false ↦ elim (ltb p e)
+          [ true ↦ elim (links w h i p) [ true ↦ follow f w h e i (nextAt w h p) (n + 1) | false ↦ Fault ] | false ↦ Fault ]
+    ]
+
+-- the chains of the f slots from i on, of no more than e places in all, all below e
+unfoldable pub slots : ℕ → List ℕ → ℕ → ℕ → ℕ → ℕ → Walk
+slots zero w h e i n = All n
+slots (suc f) w h e i n = elim (follow (e - n) w h e i (getD w i 0) n) [ All k ↦ slots f w h e (i + 1) k | Fault ↦ Fault ]
+
+-- the walk came to the end, and met k places
+unfoldable pub counted : Walk → ℕ → Bool
+counted (All n) k = eqb n k
+counted Fault k = false
+
+-- the chains of all slots hold the first e places, each once
+unfoldable pub chained : List ℕ → ℕ → ℕ → Bool
+chained w h e = counted (slots h w h e 0 0) e

@@ -1,12 +1,12 @@
--- The list of a shelf, over its words: h slot heads, then e places of four words (block address, Ori, Cur, Next). What number 3 asks of it,
--- and what a list that passes says of each block address.
+-- The list of a shelf, over its words: h slot heads, then e places of four words (block address, Ori, Cur, Next). The one list for given entries,
+-- what number 3 asks, and what a list that passes says of each block address.
 -- Assumes nothing.
-use Prim.Native.Nat.{ℕ, zero, suc, _+_, _*_, _-_, _/_, _%_, _≤_, _<_}
+use Prim.Native.Nat.{ℕ, zero, suc, _+_, _*_, _/_, _%_, _≤_, _<_}
 use mathlib.Core.Path.{_≡_}
 use mathlib.Core.Bool.{Bool, true, false, not, _&&_, _||_}
 use mathlib.Core.List.{List, [], _∷_}
-use lib.Dec.{ltb, eqb}
-use lib.ListN.{length, getD}
+use lib.Dec.{ltb, leb, eqb}
+use lib.ListN.{length, getD, set, replicate}
 use Rattle.shelf.specs.declared.record.Geometry.{Geometry}
 use Rattle.shelf.specs.Counting.{choose, any}
 
@@ -17,10 +17,11 @@ pub record Measures (g : Geometry) (l : List ℕ) : Type 0 where
   pub s1 : g .s ≤ 65536
   pub h0 : 0 < g .h
   pub h1 : g .h ≤ 256
+  pub e0 : 0 < g .e
   pub e1 : g .e ≤ 4096
   pub len : length l ≡ 4 * (g .h + 4 * g .e)
 
--- the word that means none
+-- the word that means none, FFFFFFFF hexadecimal
 abbrev pub noneWord : ℕ
 noneWord = 4294967295
 
@@ -40,7 +41,7 @@ nextAt w h p = getD w (h + 4 * p + 3) 0
 
 -- ---- an address is looked up
 
--- the place of address a in the chain from p on, of at most f places; none where it has none
+-- the place of address a among the first f places of the chain from p on, or none
 unfoldable pub seek : ℕ → List ℕ → ℕ → ℕ → ℕ → ℕ → ℕ
 seek zero w h e a p = noneWord
 seek (suc f) w h e a p =
@@ -49,86 +50,6 @@ seek (suc f) w h e a p =
 -- the place of address a, in the chain of slot a mod h; none where it is not listed
 unfoldable pub lookup : List ℕ → Geometry → ℕ → ℕ
 lookup w g a = seek (g .e) w (g .h) (g .e) a (getD w (a % g .h) 0)
-
--- ---- number 3. Its faults, in the words of the shelf's description: a chain repeats a place or leaves the list (`follow`); listed places
--- differ from the count (`passes`); address not below d×S, in a wrong slot or twice, Ori or Cur neither none nor below next, or both none
--- (`goodEntry`); in one stripe, an unlisted block together with a listed one lacking Ori (`goodStripe`)
-
--- a log record below next, or none
-unfoldable pub isRecord : ℕ → ℕ → Bool
-isRecord x next = eqb x noneWord || ltb x next
-
--- the f addresses from a on are listed
-unfoldable pub allListed : ℕ → List ℕ → Geometry → ℕ → Bool
-allListed zero w g a = true
-allListed (suc f) w g a = elim (ltb (lookup w g a) (g .e)) [ true ↦ allListed f w g (a + 1) | false ↦ false ]
-
--- place p in slot i's chain, with the words a, o and c for its address, Ori and Cur: the address is below d * s, so its stripe is below s;
--- it is in its own slot; it is there once, so the place found for it is p; Ori is none or below next, and so is Cur; not both are none
-unfoldable pub goodEntry : List ℕ → Geometry → ℕ → ℕ → ℕ → ℕ → ℕ → ℕ → Bool
-goodEntry w g next i p a o c =
-    ltb (a / g .d) (g .s)
-    && (eqb (a % g .h) i
-    && (eqb (lookup w g a) p
-    && (isRecord o next
-    && (isRecord c next
-    && not (eqb o noneWord && eqb c noneWord)))))
-
--- where a listed block with address a lacks Ori, no block of its stripe is unlisted
-unfoldable pub goodStripe : List ℕ → Geometry → ℕ → ℕ → Bool
-goodStripe w g a o = choose (eqb o noneWord) (allListed (g .d) w g (a / g .d * g .d)) true
-
--- place p in slot i's chain is without fault
-unfoldable pub good : List ℕ → Geometry → ℕ → ℕ → ℕ → Bool
-good w g next i p =
-    goodEntry w g next i p (addressAt w (g .h) p) (oriAt w (g .h) p) (curAt w (g .h) p)
-    && goodStripe w g (addressAt w (g .h) p) (oriAt w (g .h) p)
-
--- what a walk along chains comes to: how many places it has met, or a fault
-pub data Walk : Type 0 where
-  All : ℕ → Walk
-  Fault : Walk
-
--- slot i's chain from place p on, where n places were met before: a place number that is not below e leaves the list, and is a fault; so is a
--- place that does not pass, and so are more than f places. A chain that repeats a place never ends, so it has more
-unfoldable pub follow : (ℕ → ℕ → Bool) → ℕ → List ℕ → Geometry → ℕ → ℕ → ℕ → Walk
-follow pass zero w g i p n = elim (eqb p noneWord) [ true ↦ All n | false ↦ Fault ]
-follow pass (suc f) w g i p n =
-    elim (eqb p noneWord) [
-      | true ↦ All n
-      | false ↦ elim (ltb p (g .e))
-          [ true ↦ elim (pass i p) [ true ↦ follow pass f w g i (nextAt w (g .h) p) (n + 1) | false ↦ Fault ] | false ↦ Fault ]
-    ]
-
--- the chains of the f slots from i on, of no more than listed places in all
-unfoldable pub slots : (ℕ → ℕ → Bool) → ℕ → List ℕ → Geometry → ℕ → ℕ → ℕ → Walk
-slots pass zero w g listed i n = All n
-slots pass (suc f) w g listed i n =
-    elim (follow pass (listed - n) w g i (getD w i 0) n) [ All k ↦ slots pass f w g listed (i + 1) k | Fault ↦ Fault ]
-
--- the walk came to the end, and met k places
-unfoldable pub counted : Walk → ℕ → Bool
-counted (All n) k = eqb n k
-counted Fault k = false
-
--- the chains of all slots hold as many places as the count says, and each of them passes
-unfoldable pub passes : (ℕ → ℕ → Bool) → List ℕ → Geometry → ℕ → Bool
-passes pass w g listed = counted (slots pass (g .h) w g listed 0 0) listed
-
--- the list passes number 3, with the next free record and the count of listed blocks
-unfoldable pub valid : List ℕ → Geometry → ℕ → ℕ → Bool
-valid w g next listed = passes (good w g next) w g listed
-
--- the list passes number 3 with some next free record and some count
-pub record Passing (w : List ℕ) (g : Geometry) : Type 0 where
-  pub next : ℕ
-  pub listed : ℕ
-  pub passing : valid w g next listed ≡ true
-
--- the list passes number 3 with some next free record and n listed blocks
-pub record Lists (w : List ℕ) (g : Geometry) (n : ℕ) : Type 0 where
-  pub next : ℕ
-  pub passing : valid w g next n ≡ true
 
 -- ---- what a list stands for
 
@@ -148,24 +69,100 @@ entryIn w h p = entry (addressAt w h p) (oriAt w h p) (curAt w h p)
 abbrev pub entryAt : List ℕ → Geometry → ℕ → Entry
 entryAt w g p = entryIn w (g .h) p
 
+-- the entries in the f places from p on, up to the first place whose address is none
+unfoldable pub entriesFrom : ℕ → List ℕ → ℕ → ℕ → List Entry
+entriesFrom zero w h p = []
+entriesFrom (suc f) w h p = elim (eqb (addressAt w h p) noneWord) [ true ↦ [] | false ↦ entryIn w h p ∷ entriesFrom f w h (p + 1) ]
+
+-- the entries of the list, in the order of their places
+unfoldable pub entries : List ℕ → Geometry → List Entry
+entries w g = entriesFrom (g .e) w (g .h) 0
+
 -- what the list says of address a: its entry, or one with neither Ori nor Cur
 unfoldable pub said : List ℕ → Geometry → ℕ → Entry
 said w g a = choose (ltb (lookup w g a) (g .e)) (entryAt w g (lookup w g a)) (entry a noneWord noneWord)
 
--- the entries of the f addresses from a on
-unfoldable pub entriesFrom : ℕ → List ℕ → Geometry → ℕ → List Entry
-entriesFrom zero w g a = []
-entriesFrom (suc f) w g a =
-    elim (ltb (lookup w g a) (g .e)) [ true ↦ entryAt w g (lookup w g a) ∷ entriesFrom f w g (a + 1) | false ↦ entriesFrom f w g (a + 1) ]
+-- ---- the one list for given entries
 
--- all entries, in rising address
-unfoldable pub entries : List ℕ → Geometry → List Entry
-entries w g = entriesFrom (g .d * g .s) w g 0
+-- the entry x at place p, put in front of the chain of its slot
+unfoldable pub putFront : List ℕ → ℕ → ℕ → Entry → List ℕ
+putFront w h p x =
+    set (set (set (set (set w (h + 4 * p) (x .address)) (h + 4 * p + 1) (x .ori)) (h + 4 * p + 2) (x .cur)) (h + 4 * p + 3)
+    (getD w (x .address % h) 0)) (x .address % h) p
+
+-- entries at the places from p on, the last put first, so that each chain is in the order of the entries
+unfoldable pub putAll : List ℕ → ℕ → ℕ → List Entry → List ℕ
+putAll w h p [] = w
+putAll w h p (x ∷ xs) = putFront (putAll w h (p + 1) xs) h p x
+
+-- the list of these entries, from place 0 on; all other words are none
+unfoldable pub encode : Geometry → List Entry → List ℕ
+encode g es = putAll (replicate (g .h + 4 * g .e) noneWord) (g .h) 0 es
+
+-- ---- number 3 is given where the entries, from place 0 on, are not as many as the count; where they do not rise in address, or one stands twice
+-- (`rises`); where an address is not below d×S, Ori or Cur is neither none nor below next, or both are none (`goodWords`); where in one stripe an
+-- unlisted block is together with a listed one lacking Ori (`goodEntry`); or where the words are not those of the one list for these entries
+-- (`same`): a chain repeats a place, leaves the list, has a block of another slot or does not rise, or a word of an unused place is not none
+
+-- addresses rise strictly, the first not below a
+unfoldable pub rises : ℕ → List Entry → Bool
+rises a [] = true
+rises a (x ∷ xs) = leb a (x .address) && rises (suc (x .address)) xs
+
+-- address a is that of one of the entries
+unfoldable pub has : List Entry → ℕ → Bool
+has [] a = false
+has (x ∷ xs) a = eqb (x .address) a || has xs a
+
+-- each of the f addresses from a on is that of one of the entries
+unfoldable pub hasAll : ℕ → List Entry → ℕ → Bool
+hasAll zero es a = true
+hasAll (suc f) es a = has es a && hasAll f es (a + 1)
+
+-- a log record below next, or none
+unfoldable pub isRecord : ℕ → ℕ → Bool
+isRecord x next = eqb x noneWord || ltb x next
+
+-- an address below d * s; Ori none or below next, and so is Cur; not both none
+unfoldable pub goodWords : Geometry → ℕ → ℕ → ℕ → ℕ → Bool
+goodWords g next a o c =
+    ltb a (g .d * g .s) && (isRecord o next && (isRecord c next && not (eqb o noneWord && eqb c noneWord)))
+
+-- the words of entry x are good, and where it lacks Ori, every block of its stripe is among the entries es
+unfoldable pub goodEntry : Geometry → ℕ → List Entry → Entry → Bool
+goodEntry g next es x =
+    goodWords g next (x .address) (x .ori) (x .cur)
+    && choose (eqb (x .ori) noneWord) (hasAll (g .d) es (x .address / g .d * g .d)) true
+
+-- each of these entries is good among es
+unfoldable pub allGood : Geometry → ℕ → List Entry → List Entry → Bool
+allGood g next es [] = true
+allGood g next es (x ∷ xs) = goodEntry g next es x && allGood g next es xs
+
+-- two lists of words are the same
+unfoldable pub same : List ℕ → List ℕ → Bool
+same [] [] = true
+same [] (y ∷ ys) = false
+same (x ∷ xs) [] = false
+same (x ∷ xs) (y ∷ ys) = eqb x y && same xs ys
+
+-- the list passes number 3, with the next free record and the count of listed blocks
+unfoldable pub valid : List ℕ → Geometry → ℕ → ℕ → Bool
+valid w g next listed =
+    let es = entries w g in
+    eqb (length es) listed && (rises 0 es && (allGood g next es es && same w (encode g es)))
+
+-- the list passes number 3 with some next free record and n listed blocks
+pub record Lists (w : List ℕ) (g : Geometry) (n : ℕ) : Type 0 where
+  pub next : ℕ
+  pub passing : valid w g next n ≡ true
+
+-- ---- stale stripes
 
 -- the block with data index i of stripe x is listed
 abbrev pub listedIn : List ℕ → Geometry → ℕ → ℕ → Bool
 listedIn w g x i = ltb (lookup w g (x * g .d + i)) (g .e)
 
--- stripe x is stale: a block of it is listed. (The shelf's description calls such a stripe waiting.)
+-- stripe x is stale: a block of it is listed. (The customer's paper calls such a stripe waiting.)
 unfoldable pub staleIn : List ℕ → Geometry → ℕ → Bool
 staleIn w g x = any (g .d) (listedIn w g x)

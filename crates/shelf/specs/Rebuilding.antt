@@ -82,10 +82,6 @@ rebuiltTo h parity (suc n) = stripeRebuilt (withArray h (rebuiltTo h parity n)) 
 abbrev pub rebuiltRecord : Shelf → Bool → Shelf
 rebuiltRecord r parity = choose parity (withListed (withMode (withCleared r) 0) 0) (withCleared r)
 
--- a list of n entries emptied; without entries it stays as it is
-abbrev pub emptiedList : ℕ → List ℕ → List ℕ
-emptiedList n l = choose (ltb 0 n) (replicate (length l) 255) l
-
--- the list is emptied where parity had failed
-abbrev pub rebuiltList : Shelf → Bool → List ℕ → List ℕ
-rebuiltList r parity l = choose parity (emptiedList (r .listed) l) l
+-- the list, every word none where parity had failed
+abbrev pub rebuiltList : Bool → List ℕ → List ℕ
+rebuiltList parity l = choose parity (replicate (length l) 255) l

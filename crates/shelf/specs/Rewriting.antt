@@ -1,32 +1,16 @@
--- What the functions that alter a list promise: the one list for given entries, and how the entries are gathered, dropped and merged in a
--- working slice.
+-- What the functions that alter a list promise: entries dropped and put in, entries in a slice, and how they are moved in the list's own places.
 -- Assumes nothing.
-use Prim.Native.Nat.{ℕ, zero, suc, _+_, _*_, _/_, _%_, _≤_, _<_}
+use Prim.Native.Nat.{ℕ, zero, suc, _+_, _*_, _-_, _/_, _≤_, _<_}
 use mathlib.Core.Path.{_≡_}
-use mathlib.Core.Bool.{Bool, true, false, not, _&&_}
-use mathlib.Core.List.{List, [], _∷_}
+use mathlib.Core.Bool.{true, false}
+use mathlib.Core.List.{List, [], _∷_, _++_}
 use lib.Dec.{ltb, eqb}
-use lib.ListN.{length, getD, set, replicate}
+use lib.ListN.{length, getD, take, drop}
 use Rattle.shelf.specs.declared.record.Geometry.{Geometry}
 use Rattle.shelf.specs.Words.{words, bytesOf}
-use Rattle.shelf.specs.HashList.{noneWord, addressAt, lookup, Entry, entry, entries}
+use Rattle.shelf.specs.HashList.{noneWord, Entry, entry, entryIn, entries, encode}
 
--- ---- the one list for given entries
-
--- the entry x at place p, put in front of the chain of its slot
-unfoldable pub putFront : List ℕ → ℕ → ℕ → Entry → List ℕ
-putFront w h p x =
-    set (set (set (set (set w (h + 4 * p) (x .address)) (h + 4 * p + 1) (x .ori)) (h + 4 * p + 2) (x .cur)) (h + 4 * p + 3)
-    (getD w (x .address % h) 0)) (x .address % h) p
-
--- entries at the places from p on, the last put first
-unfoldable pub putAll : List ℕ → ℕ → ℕ → List Entry → List ℕ
-putAll w h p [] = w
-putAll w h p (x ∷ xs) = putFront (putAll w h (p + 1) xs) h p x
-
--- the list of these entries, from place 0 on; all other words are none
-unfoldable pub encode : Geometry → List Entry → List ℕ
-encode g es = putAll (replicate (g .h + 4 * g .e) noneWord) (g .h) 0 es
+-- ---- entries dropped and put in
 
 -- the entries but those of stripe k
 unfoldable pub dropStripe : ℕ → ℕ → List Entry → List Entry
@@ -48,10 +32,14 @@ Rewritten g es l n = (l ≡ bytesOf (encode g es)) × ((words l ≡ encode g es)
 abbrev pub at3 : List ℕ → ℕ → Entry
 at3 x i = entry (getD x (3 * i) 0) (getD x (3 * i + 1) 0) (getD x (3 * i + 2) 0)
 
--- f entries from entry i on: the slice as a table of entries
-unfoldable pub held : ℕ → ℕ → List ℕ → List Entry
-held zero i x = []
-held (suc f) i x = at3 x i ∷ held f (i + 1) x
+-- n entries of a table, from entry i on
+unfoldable pub table : ℕ → ℕ → (ℕ → Entry) → List Entry
+table zero i f = []
+table (suc n) i f = f i ∷ table n (i + 1) f
+
+-- n entries of a slice, from entry i on
+abbrev pub held : ℕ → ℕ → List ℕ → List Entry
+held n i x = table n i (at3 x)
 
 -- the first j entries of a slice put among rising entries
 unfoldable pub merged : ℕ → List ℕ → List Entry → List Entry
@@ -69,24 +57,45 @@ pub record Replaces (g : Geometry) (k c : ℕ) (w y : List ℕ) : Type 0 where
   pub long : 3 * c ≤ length y
   pub segment : Segment (g .d) k c y
 
--- ---- as the code does it
+-- ---- as the code does it, in the list's own places
 
--- the entry x is sunk from entry n of a table down among the first n, which are rising
-unfoldable pub sink : ℕ → List Entry → Entry → List Entry
-sink zero t x = set t 0 x
-sink (suc i) t x =
-    elim (ltb (getD t i (entry 0 0 0) .address) (x .address)) [
-      | true ↦ set t (suc i) x
-      | false ↦ sink i
-          (set t (suc i) (getD t i (entry 0 0 0))) x
-    ]
+-- what n places of the list hold, from place p on
+abbrev pub placed : ℕ → List ℕ → ℕ → ℕ → List Entry
+placed n w h p = table n p (entryIn w h)
 
--- the first j entries of a slice sunk, one after another, into a table whose first n are rising
-unfoldable pub sunk : ℕ → ℕ → List Entry → List ℕ → List Entry
-sunk zero n t x = t
-sunk (suc j) n t x = sink (n + j) (sunk j n t x) (at3 x j)
+-- the words v are the words w with none for those from i on, below k
+pub record Blanked (i k : ℕ) (w v : List ℕ) : Type 0 where
+  pub long : length v ≡ length w
+  pub inside : (j : ℕ) → i ≤ j → j < k → getD v j 0 ≡ noneWord
+  pub below : (j : ℕ) → j < i → getD v j 0 ≡ getD w j 0
+  pub above : (j : ℕ) → k ≤ j → getD v j 0 ≡ getD w j 0
 
--- place p is listed, and not of stripe k; a place whose address is not below d * s, as none is not, is not looked up
-unfoldable pub keeps : List ℕ → Geometry → ℕ → ℕ → Bool
-keeps w g k p =
-    let a = addressAt w (g .h) p in ltb (a / g .d) (g .s) && (not (eqb (a / g .d) k) && eqb (lookup w g a) p)
+-- from word i on the words v are the words w
+abbrev pub KeptFrom : ℕ → List ℕ → List ℕ → Type 0
+KeptFrom i w v = (j : ℕ) → i ≤ j → getD v j 0 ≡ getD w j 0
+
+-- of e places behind h slot heads, all words of those neither among the first m nor among the first n are none
+abbrev pub NoneBehind : ℕ → ℕ → ℕ → ℕ → List ℕ → Type 0
+NoneBehind h e m n w = (j : ℕ) → h + 4 * m ≤ j → h + 4 * n ≤ j → j < h + 4 * e → getD w j 0 ≡ noneWord
+
+-- none of the entries is of a stripe below k
+abbrev pub NotBelow : ℕ → ℕ → List Entry → Type 0
+NotBelow d k [] = Unit {0}
+NotBelow d k (x ∷ xs) = (k ≤ x .address / d) × NotBelow d k xs
+
+-- the table u is t with c places free from place i on: what stands below them and what stands behind them, of no stripe below k, are the first
+-- n of t
+pub record Opening (d k c n : ℕ) (t u : List Entry) (i : ℕ) : Type 0 where
+  pub within : i ≤ n
+  pub parts : take i u ++ take (n - i) (drop (i + c) u) ≡ take n t
+  pub higher : NotBelow d k (take (n - i) (drop (i + c) u))
+
+-- and the last that stands below them is of a stripe below k
+pub record Opened (d k c n : ℕ) (t u : List Entry) (i : ℕ) : Type 0 where
+  pub opening : Opening d k c n t u i
+  pub lower : 0 < i → getD u (i - 1) (entry 0 0 0) .address / d < k
+
+-- the table u is t with the first j entries of a slice from place i on
+pub record Filled (i j : ℕ) (t u : List Entry) (y : List ℕ) : Type 0 where
+  pub front : take (i + j) u ≡ take i t ++ held j 0 y
+  pub back : (c : ℕ) → j ≤ c → drop (i + c) u ≡ drop (i + c) t

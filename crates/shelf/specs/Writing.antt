@@ -16,7 +16,7 @@ use Rattle.shelf.specs.Calls.{unlistedWritten, unlistedOthers, preRead, 
 use Rattle.shelf.specs.Words.{words}
 use Rattle.shelf.specs.HashList.{Measures, Lists, said, entry, entries}
 use Rattle.shelf.specs.Rewriting.{Rewritten, dropStripe, merged, at3}
-use Rattle.shelf.specs.Lent.{Lent, lent, listedBy, recordAt, oriBy, curBy, stateOf, arrayLength, changesList}
+use Rattle.shelf.specs.Lent.{Lent, lent, listedBy, recordAt, stateOf, arrayLength}
 use Rattle.shelf.specs.Reading.{ListReady, Ready}
 use Rattle.shelf.specs.Showing.{Shows}
 use Rattle.shelf.specs.declared.record.Geometry.{Geometry}
@@ -168,16 +168,10 @@ MakesStripe t from p r a l r' a' l' =
     (s : State) (w : ℕ → Bool) (v : ℕ → List ℕ) (n : List ℕ) → Shared (r .geometry) w v from p → Shows (r .geometry) s (lent r a n l)
     → Shows (r .geometry) (made (r .geometry) s t (overwritten w v (s .disk t))) (lent r' a' n l')
 
--- a list that says of stripe t's blocks what it said before keeps its bytes
-abbrev pub KeepsList : Geometry → ℕ → List ℕ → List ℕ → Type 0
-KeepsList g t l l' =
-    ((i : ℕ) → i < g .d → oriBy g l' t i ≡ oriBy g l t i) → ((i : ℕ) → i < g .d → curBy g l' t i ≡ curBy g l t i) → l' ≡ l
-
 -- stripe t written, in one of these two ways
 abbrev pub WritesStripe : Geometry → ℕ → List ℕ → Share → Lent → Lent → Type 0
 WritesStripe g t from p h h' =
-    (s : State) (w : ℕ → Bool) (v : ℕ → List ℕ) → Shared g w v from p → Shows g s h
-    → Shows g (writeStripe g s t w v) h' × KeepsList g t (h .list) (h' .list)
+    (s : State) (w : ℕ → Bool) (v : ℕ → List ℕ) → Shared g w v from p → Shows g s h → Shows g (writeStripe g s t w v) h'
 
 -- what is asked for stripe t: record, array and list have passed rows 1 to 3, as far as its functions ask, some block is written, and all of them
 -- stand in the caller's data
@@ -197,7 +191,6 @@ pub record WriteReady (h : Lent) (a n len : ℕ) : Type 0 where
   pub fits : a + n ≤ addresses (h .shelf .geometry)
   pub long : len ≡ n * h .shelf .geometry .b
 
--- the first c stripes written: what is lent after it, and when the list keeps its bytes
-pub record WrittenTo (h : Lent) (c a n : ℕ) (from : List ℕ) (h' : Lent) : Type 0 where
-  pub shows : Shows (h .shelf .geometry) (writeTo (h .shelf .geometry) c a n from (stateOf h)) h'
-  pub keeps : changesList (h .shelf .geometry) (stateOf h .log) (writeTo (h .shelf .geometry) c a n from (stateOf h) .log) ≡ false → h' .list ≡ h .list
+-- the first c stripes written: what is lent after it
+abbrev pub WrittenTo : Lent → ℕ → ℕ → ℕ → List ℕ → Lent → Type 0
+WrittenTo h c a n from h' = Shows (h .shelf .geometry) (writeTo (h .shelf .geometry) c a n from (stateOf h)) h'

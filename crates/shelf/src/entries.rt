@@ -1,15 +1,14 @@
-// The entries of a list: gathered in rising address in a working slice, three numbers to an entry, and written as a list anew.
-use super::list;
+// The entries of a list, altered in their own places; then the chains are made anew.
 use super::record;
 use super::words;
 ghost use mathlib.Core.Path.{_≡_};
 ghost use Prim.Native.Nat.{_+_, _*_, _≤_, _<_};
-ghost use lib.ListN.{length, set};
+ghost use lib.ListN.{length, set, take};
 ghost use Rattle.shelf.specs.Words.{words};
-ghost use Rattle.shelf.specs.HashList.{Measures, Passing, entry, entries};
-ghost use Rattle.shelf.specs.Rewriting.{putFront, encode, dropStripe, held, sink, sunk, keeps};
+ghost use Rattle.shelf.specs.HashList.{Measures, entry, entryIn, putFront, encode};
+ghost use Rattle.shelf.specs.Rewriting.{dropStripe, held, placed, KeptFrom, NoneBehind, Opened, Filled};
 
-// Puts an entry as entry i of a working slice of e entries.
+// Puts an entry as entry i of a slice of e entries.
 pub fn put_entry(x: &mut [u32], e: usize, i: usize, a: usize, o: usize, c: usize)
     requires { ⌜ (i < e) × ((e ≤ 4096) × ((3 * e ≤ length (now x)) × ((a < 4294967296) × ((o < 4294967296) × (c < 4294967296))))) ⌝ }
     ensures { λ _. ⌜ held e 0 (now (x .exit)) ≡ set (held e 0 (now (x .entry))) i (entry a o c) ⌝ }
@@ -19,108 +18,101 @@ pub fn put_entry(x: &mut [u32], e: usize, i: usize, a: usize, o: usize, c: usize
     x[3 * i + 2] = c as u32;
 }
 
-// Puts an entry in its place among the first n entries of a working slice of e, which are in rising address.
-fn insert(x: &mut [u32], e: usize, n: usize, a: usize, o: usize, c: usize)
-    requires { ⌜ (n < e) × ((e ≤ 4096) × ((3 * e ≤ length (now x)) × ((a < 4294967296) × ((o < 4294967296) × (c < 4294967296))))) ⌝ }
-    ensures { λ _. ⌜ held e 0 (now (x .exit)) ≡ sink n (held e 0 (now (x .entry))) (entry a o c) ⌝ }
+// Puts an entry in place i of e, behind h slot heads. Its Next is left, and so are all words behind the place.
+fn put_place(l: &mut [u8], h: usize, e: usize, i: usize, a: usize, o: usize, c: usize)
+    requires { ⌜ (i < e) × ((h ≤ 256) × ((e ≤ 4096) × ((length (now l) ≡ 4 * (h + 4 * e)) × ((a < 4294967296) × ((o < 4294967296) × (c < 4294967296)))))) ⌝ }
+    ensures { λ _. ⌜ (placed e (words (now (l .exit))) h 0 ≡ set (placed e (words (now (l .entry))) h 0) i (entry a o c)) × KeptFrom (h + 4 * (i + 1)) (words (now (l .entry))) (words (now (l .exit))) ⌝ }
 {
-    let mut i = n;
-    while i > 0 {
-        let j = i - 1;
-        let b = x[3 * j] as usize;
-        if b < a {
-            break;
-        }
-        let q = x[3 * j + 1] as usize;
-        let r = x[3 * j + 2] as usize;
-        put_entry(x, e, i, b, q, r);
-        i = j;
-    }
-    put_entry(x, e, i, a, o, c);
+    words::put_word(l, h + 4 * i, a);
+    words::put_word(l, h + 4 * i + 1, o);
+    words::put_word(l, h + 4 * i + 2, c);
 }
 
-// Whether place p of a list that passes number 3 is listed, and not of stripe k. A place whose address is none costs
-// no lookup.
-fn keeps_place(l: &[u8], g: record::Geometry, k: usize, p: usize) -> bool
-    requires { ⌜ Measures g (now l) × (p < g .e) ⌝ }
-    ensures { λ r. ⌜ r ≡ keeps (words (now (l .entry))) g k p ⌝ }
+// Closes the entries of the first n places up over those of stripe k. Answers how many are left, in the places from 0 on. The words
+// behind the n places are left.
+pub fn close_up(l: &mut [u8], g: record::Geometry, k: usize, n: usize) -> usize
+    requires { ⌜ Measures g (now l) × (n ≤ g .e) ⌝ }
+    ensures { λ r. ⌜ (r ≤ n) × ((take r (placed (g .e) (words (now (l .exit))) (g .h) 0) ≡ dropStripe (g .d) k (take n (placed (g .e) (words (now (l .entry))) (g .h) 0))) × KeptFrom (g .h + 4 * n) (words (now (l .entry))) (words (now (l .exit)))) ⌝ }
 {
     let d = g.d;
-    let s = g.s;
-    let h = g.h;
-    let a = words::word(l, h + 4 * p);
-    if a / d >= s {
-        return false;
-    }
-    if a / d == k {
-        return false;
-    }
-    list::find(l, g, a) == p
-}
-
-// Gathers the entries of a list that passes number 3, but those of stripe k, in rising address. Answers how many they are.
-pub fn gather(l: &[u8], g: record::Geometry, k: usize, x: &mut [u32]) -> usize
-    requires { ⌜ Measures g (now l) × ((3 * g .e ≤ length (now x)) × Passing (words (now l)) g) ⌝ }
-    ensures { λ r. ⌜ (r ≤ g .e) × (held r 0 (now (x .exit)) ≡ dropStripe (g .d) k (entries (words (now (l .entry))) g)) ⌝ }
-{
     let h = g.h;
     let e = g.e;
-    let mut n: usize = 0;
+    let mut m: usize = 0;
     let mut p: usize = 0;
-    while p < e {
-        if keeps_place(l, g, k, p) {
-            let a = words::word(l, h + 4 * p);
+    while p < n {
+        let a = words::word(l, h + 4 * p);
+        if a / d != k {
             let o = words::word(l, h + 4 * p + 1);
             let c = words::word(l, h + 4 * p + 2);
-            insert(x, e, n, a, o, c);
-            n += 1;
+            put_place(l, h, e, m, a, o, c);
+            m += 1;
         }
         p += 1;
     }
-    n
+    m
 }
 
-// Puts the c entries of y among the first n of x, a working slice of e entries; both are in rising address.
-pub fn merge(x: &mut [u32], e: usize, n: usize, y: &[u32], c: usize)
-    requires { ⌜ (n + c ≤ e) × ((e ≤ 4096) × ((3 * e ≤ length (now x)) × (3 * c ≤ length (now y)))) ⌝ }
-    ensures { λ _. ⌜ held e 0 (now (x .exit)) ≡ sunk c n (held e 0 (now (x .entry))) (now (y .entry)) ⌝ }
+// Opens a gap of c places for stripe k among the first n places. Answers where it begins. The words behind n + c places are left.
+pub fn open_up(l: &mut [u8], g: record::Geometry, k: usize, n: usize, c: usize) -> usize
+    requires { ⌜ Measures g (now l) × (n + c ≤ g .e) ⌝ }
+    ensures { λ r. ⌜ Opened (g .d) k c n (placed (g .e) (words (now (l .entry))) (g .h) 0) (placed (g .e) (words (now (l .exit))) (g .h) 0) r × KeptFrom (g .h + 4 * (n + c)) (words (now (l .entry))) (words (now (l .exit))) ⌝ }
+{
+    let d = g.d;
+    let h = g.h;
+    let e = g.e;
+    let mut i = n;
+    while i > 0 {
+        let j = i - 1;
+        let a = words::word(l, h + 4 * j);
+        if a / d < k {
+            break;
+        }
+        let o = words::word(l, h + 4 * j + 1);
+        let q = words::word(l, h + 4 * j + 2);
+        put_place(l, h, e, j + c, a, o, q);
+        i = j;
+    }
+    i
+}
+
+// Puts the c entries of y in the places from i on. The words behind these places are left.
+pub fn put_places(l: &mut [u8], h: usize, e: usize, i: usize, y: &[u32], c: usize)
+    requires { ⌜ (i + c ≤ e) × ((h ≤ 256) × ((e ≤ 4096) × ((length (now l) ≡ 4 * (h + 4 * e)) × (3 * c ≤ length (now y))))) ⌝ }
+    ensures { λ _. ⌜ Filled i c (placed e (words (now (l .entry))) h 0) (placed e (words (now (l .exit))) h 0) (now (y .entry)) × KeptFrom (h + 4 * (i + c)) (words (now (l .entry))) (words (now (l .exit))) ⌝ }
 {
     let mut j: usize = 0;
     while j < c {
         let a = y[3 * j] as usize;
         let o = y[3 * j + 1] as usize;
         let q = y[3 * j + 2] as usize;
-        insert(x, e, n + j, a, o, q);
+        put_place(l, h, e, i + j, a, o, q);
         j += 1;
     }
 }
 
-// Puts an entry at place p, in front of its slot's chain.
-fn put_front(l: &mut [u8], h: usize, p: usize, a: usize, o: usize, c: usize)
-    requires { ⌜ (0 < h) × ((h ≤ 256) × ((p < 4096) × ((4 * (h + 4 * p) + 16 ≤ length (now l)) × ((a < 4294967296) × ((o < 4294967296) × (c < 4294967296)))))) ⌝ }
-    ensures { λ _. ⌜ words (now (l .exit)) ≡ putFront (words (now (l .entry))) h p (entry a o c) ⌝ }
+// Puts place p of e, behind h slot heads, in front of its slot's chain.
+fn link(l: &mut [u8], h: usize, e: usize, p: usize)
+    requires { ⌜ (p < e) × ((0 < h) × ((h ≤ 256) × ((e ≤ 4096) × (length (now l) ≡ 4 * (h + 4 * e))))) ⌝ }
+    ensures { λ _. ⌜ words (now (l .exit)) ≡ putFront (words (now (l .entry))) h p (entryIn (words (now (l .entry))) h p) ⌝ }
 {
-    let s = a % h;
+    let s = words::word(l, h + 4 * p) % h;
     let n = words::word(l, s);
-    words::put_word(l, h + 4 * p, a);
-    words::put_word(l, h + 4 * p + 1, o);
-    words::put_word(l, h + 4 * p + 2, c);
     words::put_word(l, h + 4 * p + 3, n);
     words::put_word(l, s, p);
 }
 
-// Writes the list of the first n entries of x anew.
-pub fn write_list(l: &mut [u8], g: record::Geometry, x: &[u32], n: usize)
-    requires { ⌜ Measures g (now l) × ((n ≤ g .e) × (3 * n ≤ length (now x))) ⌝ }
-    ensures { λ _. ⌜ words (now (l .exit)) ≡ encode g (held n 0 (now (x .entry))) ⌝ }
+// Makes the list of the first m places: the chains anew, and none in the places from m on, of which those from n on are none already.
+pub fn relink(l: &mut [u8], g: record::Geometry, m: usize, n: usize)
+    requires { ⌜ Measures g (now l) × ((m ≤ g .e) × ((n ≤ g .e) × NoneBehind (g .h) (g .e) m n (words (now l)))) ⌝ }
+    ensures { λ _. ⌜ words (now (l .exit)) ≡ encode g (take m (placed (g .e) (words (now (l .entry))) (g .h) 0)) ⌝ }
 {
-    words::fill_none(l, g.h + 4 * g.e);
-    let mut p = n;
+    let h = g.h;
+    let e = g.e;
+    words::fill_from(l, 0, h);
+    words::fill_from(l, h + 4 * m, h + 4 * n);
+    let mut p = m;
     while p > 0 {
         p -= 1;
-        let a = x[3 * p] as usize;
-        let o = x[3 * p + 1] as usize;
-        let c = x[3 * p + 2] as usize;
-        put_front(l, g.h, p, a, o, c);
+        link(l, h, e, p);
     }
 }

@@ -3,8 +3,8 @@
 //
 // Here stand the calls for C. Below them: `record` has the shelf record and its methods, `status` decides the number by which a call is
 // refused, before anything is stored. The list of the blocks whose parity is put off is bytes: `words` reads and writes them as 32-bit
-// words, `list` looks a block up and tests a list for number 3, `entries` gathers a list's entries and writes a list anew, `alter`
-// drops and replaces the entries of a stripe, `stale` tells which stripes have a listed block. The calls that move blocks have a file
+// words, `list` looks a block up and tests a list for number 3, `entries` moves a list's entries in their places and makes the
+// chains anew, `alter` drops and replaces the entries of a stripe, `stale` tells which stripes have a listed block. The calls that move blocks have a file
 // each, `read`, `write`, `resync`, `rebuild`; a write's stripe goes by its `share` of the caller's data, and one that is logged by a
 // `plan`, the stripe's `row` of the list, `log` and `copies`. The contracts cite `specs/`: `Lent.antt` has the promise of every call,
 // `Calls.antt` what each does.
@@ -219,7 +219,7 @@ pub extern "C" fn shelf_resync(
             shelf,
         };
     }
-    let t = stale::lowest_stale(list, g);
+    let t = stale::lowest_stale(list, g, shelf.listed);
     if t >= s {
         return Resynced {
             code: 0,
@@ -227,7 +227,7 @@ pub extern "C" fn shelf_resync(
             shelf: shelf.in_mode(0),
         };
     }
-    let n = resync::make_stripe(array, list, g, t);
+    let n = resync::make_stripe(array, list, g, t, shelf.listed);
     let entered = shelf.in_mode(2);
     Resynced {
         code: 0,
@@ -237,7 +237,7 @@ pub extern "C" fn shelf_resync(
 }
 
 // Fills every failed data disk with what a read gives and clears the array's flags. If P or Q had failed, both are made afresh for every
-// stripe, the list is emptied and the mode is 0. Answers 0; or the first of 1, 2, 3, 12, 14 that applies, and then stores nothing.
+// stripe, every word of the list is none and the mode is 0. Answers 0; or the first of 1, 2, 3, 12, 14 that applies, and then stores nothing.
 #[no_mangle]
 pub extern "C" fn shelf_rebuild(
     shelf: record::Shelf,

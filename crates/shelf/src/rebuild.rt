@@ -11,7 +11,7 @@ ghost use Rattle.shelf.specs.Members.{InRange};
 ghost use Rattle.shelf.specs.Calls.{parityFailed};
 ghost use Rattle.shelf.specs.Lent.{lent, flagAt};
 ghost use Rattle.shelf.specs.Reading.{lostBlock};
-ghost use Rattle.shelf.specs.Rebuilding.{Rebuildable, Lost, FilledBelow, stillMissing, parityFailedAt, filledAt, filledTo, stripeRebuilt, rebuiltTo, rebuiltRecord, emptiedList, rebuiltList};
+ghost use Rattle.shelf.specs.Rebuilding.{Rebuildable, Lost, FilledBelow, stillMissing, parityFailedAt, filledAt, filledTo, stripeRebuilt, rebuiltTo, rebuiltRecord, rebuiltList};
 
 // Whether P or Q had failed: the member that has it in a stripe.
 pub fn parity_failed(shelf: record::Shelf) -> bool
@@ -181,25 +181,16 @@ fn still_missing(i: usize, y: usize) -> usize
     y
 }
 
-// The record after a rebuild, and the list: the array's flags clear; where parity had failed, the list is emptied and the mode is 0.
+// The record after a rebuild, and the list: the array's flags clear; where parity had failed, every word of the list is none and the mode is 0.
 pub fn settle(shelf: record::Shelf, parity: bool, list: &mut [u8]) -> record::Shelf
     requires { ⌜ shelf .geometry .d ≤ 16 ⌝ }
-    ensures { λ r. ⌜ (r ≡ rebuiltRecord shelf parity) × (now (list .exit) ≡ rebuiltList shelf parity (now (list .entry))) ⌝ }
+    ensures { λ r. ⌜ (r ≡ rebuiltRecord shelf parity) × (now (list .exit) ≡ rebuiltList parity (now (list .entry))) ⌝ }
 {
     let cleared = shelf.clear_array();
     if !parity {
         return cleared;
     }
-    empty_list(list, shelf.listed);
+    super::fill(list, 255);
     let entered = cleared.in_mode(0);
     entered.drop_to(0)
-}
-
-// Makes every word of a list of n entries none. Where it has no entry it stays as it is.
-fn empty_list(list: &mut [u8], n: usize)
-    ensures { λ _. ⌜ now (list .exit) ≡ emptiedList n (now (list .entry)) ⌝ }
-{
-    if 0 < n {
-        super::fill(list, 255);
-    }
 }

@@ -8,15 +8,21 @@ ghost use Rattle.stripe.specs.Places.{place, parityMade};
 ghost use Rattle.shelf.specs.Members.{InRange};
 ghost use Rattle.shelf.specs.Lent.{arrayLength};
 ghost use Rattle.shelf.specs.Words.{words};
-ghost use Rattle.shelf.specs.HashList.{Measures, Passing, entries};
+ghost use Rattle.shelf.specs.HashList.{Measures, Lists, entries};
 ghost use Rattle.shelf.specs.Rewriting.{Rewritten, dropStripe};
 
-// Makes P and Q of stripe t of the data that stand in the array, and drops its entries from a list that passes number 3. Answers how
-// many entries are left.
-pub fn make_stripe(array: &mut [u8], list: &mut [u8], g: record::Geometry, t: usize) -> usize
-    requires { ⌜ InRange g × ((t < g .s) × ((length (now array) ≡ arrayLength g) × (Measures g (now list) × Passing (words (now list)) g))) ⌝ }
-    ensures { λ n. ⌜ (now (array .exit) ≡ parityMade (place (g .d) (g .s) t) (g .d) (g .b) (now (array .entry))) × Rewritten g (dropStripe (g .d) t (entries (words (now (list .entry))) g)) (now (list .exit)) n ⌝ }
+// Makes P and Q of stripe t of the data that stand in the array, and drops its entries from a list of n entries that passes
+// number 3. Answers how many entries are left.
+pub fn make_stripe(
+    array: &mut [u8],
+    list: &mut [u8],
+    g: record::Geometry,
+    t: usize,
+    n: usize,
+) -> usize
+    requires { ⌜ InRange g × ((t < g .s) × ((length (now array) ≡ arrayLength g) × (Measures g (now list) × Lists (words (now list)) g n))) ⌝ }
+    ensures { λ r. ⌜ (now (array .exit) ≡ parityMade (place (g .d) (g .s) t) (g .d) (g .b) (now (array .entry))) × Rewritten g (dropStripe (g .d) t (entries (words (now (list .entry))) g)) (now (list .exit)) r ⌝ }
 {
     stripe::parity::make_parity(array, g.d, g.s, t, g.b);
-    alter::drop_stripe(list, g, t)
+    alter::drop_stripe(list, g, t, n)
 }

@@ -1,9 +1,9 @@
 // Bytes as 32-bit words, lowest byte first: word i is the bytes 4 i to 4 i + 3.
 ghost use mathlib.Core.Path.{_≡_};
 ghost use Prim.Native.Nat.{_+_, _*_, _≤_, _<_};
-ghost use lib.ListN.{length, getD, set, replicate};
+ghost use lib.ListN.{length, getD, set};
 ghost use Rattle.shelf.specs.Words.{words};
-ghost use Rattle.shelf.specs.HashList.{noneWord};
+ghost use Rattle.shelf.specs.Rewriting.{Blanked};
 
 // The word that means none.
 pub const NONE: usize = 4294967295;
@@ -41,14 +41,14 @@ pub fn put_word(l: &mut [u8], i: usize, v: usize)
     l[a + 3] = (v / 16777216) as u8;
 }
 
-// Puts none, FFFFFFFF hexadecimal, as each of the k words.
-pub fn fill_none(l: &mut [u8], k: usize)
-    requires { ⌜ (k < 1000000) × (length (now l) ≡ 4 * k) ⌝ }
-    ensures { λ _. ⌜ words (now (l .exit)) ≡ replicate k noneWord ⌝ }
+// Puts none, FFFFFFFF hexadecimal, as each of the words from i on, below k; where k ≤ i nothing is stored.
+pub fn fill_from(l: &mut [u8], i: usize, k: usize)
+    requires { ⌜ (k < 1000000) × (4 * k ≤ length (now l)) ⌝ }
+    ensures { λ _. ⌜ Blanked i k (words (now (l .entry))) (words (now (l .exit))) ⌝ }
 {
-    let mut i: usize = 0;
-    while i < k {
-        put_word(l, i, NONE);
-        i += 1;
+    let mut j = i;
+    while j < k {
+        put_word(l, j, NONE);
+        j += 1;
     }
 }

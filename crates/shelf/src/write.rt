@@ -8,7 +8,7 @@ ghost use mathlib.Core.Path.{_≡_};
 ghost use lib.ListN.{length};
 ghost use Rattle.stripe.specs.Places.{place, parityMade};
 ghost use Rattle.shelf.specs.Lent.{lent, logLength};
-ghost use Rattle.shelf.specs.Writing.{newStored, Storable, MakesStripe, WritesStripe, KeepsList, Writable, WriteReady, WrittenTo};
+ghost use Rattle.shelf.specs.Writing.{newStored, Storable, MakesStripe, WritesStripe, Writable, WriteReady, WrittenTo};
 
 // Writes the n blocks of source from address a on. Hands back the record after it.
 pub fn write_blocks(
@@ -86,7 +86,7 @@ fn make_stripe(
     list: &mut [u8],
 ) -> record::Shelf
     requires { ⌜ Writable shelf (now array) (now list) t (now source) share ⌝ }
-    ensures { λ r. ⌜ MakesStripe t (now (source .entry)) share shelf (now (array .entry)) (now (list .entry)) r (now (array .exit)) (now (list .exit)) × KeepsList (shelf .geometry) t (now (list .entry)) (now (list .exit)) ⌝ }
+    ensures { λ r. ⌜ MakesStripe t (now (source .entry)) share shelf (now (array .entry)) (now (list .entry)) r (now (array .exit)) (now (list .exit)) ⌝ }
 {
     let g = shelf.geometry;
     store_parity(g, t, share, source, array);

@@ -1,11 +1,9 @@
 //! What the bench program must write: a shelf as the model of the calls has it, driven by the lines of an input.
 
 use super::lines::{call_line, lines, measures, CallLine};
-use crate::random::Random;
 use crate::shelf::calls::{Buffer, Call, Measures, Record, Shelf};
-use crate::shelf::due::{Due, ListDue};
+use crate::shelf::due::Due;
 use crate::shelf::events::Seen;
-use crate::shelf::lists::arranged;
 use crate::shelf::model::{findings, lengths};
 use crate::shelf::works::outcome;
 
@@ -19,7 +17,6 @@ pub const ROOM: u128 = 32_768;
 /// The shelf of the program.
 pub struct Bench {
     pub shelf: Shelf,
-    random: Random,
 }
 
 impl Bench {
@@ -31,7 +28,7 @@ impl Bench {
         let record = Record { measures: m, mode: 3, next: 3, listed: 3, failed: [1; 19] };
         let [array, log, list] = lengths(m).map(|length| Buffer::of(vec![3; length as usize]));
         let shelf = Shelf { record, array, log, list, data: Buffer::empty() };
-        let mut bench = Bench { shelf, random: Random::new(0, 0) };
+        let mut bench = Bench { shelf };
         let (code, _) = bench.made(Call::Format, Buffer::empty(), &mut Seen::default());
         (code == 0).then_some(bench)
     }
@@ -47,19 +44,13 @@ impl Bench {
         (code, first.unwrap_or(0))
     }
 
-    /// Takes over what a call leaves. The list is arranged in any way that says what is due.
+    /// Takes over what a call leaves.
     fn take(&mut self, due: Due) {
         let shelf = &mut self.shelf;
         shelf.record = due.record;
         due.array.into_iter().for_each(|bytes| shelf.array.bytes = bytes);
         due.log.into_iter().for_each(|bytes| shelf.log.bytes = bytes);
-        match due.list {
-            ListDue::Kept => {}
-            ListDue::Bytes(bytes) => shelf.list.bytes = bytes,
-            ListDue::Says(entries) => {
-                shelf.list.bytes = arranged(due.record.measures, &entries, &mut self.random).bytes();
-            }
-        }
+        due.list.into_iter().for_each(|bytes| shelf.list.bytes = bytes);
     }
 
     /// The caller's data: as many bytes as the count asks for, each the fill byte; none where they are more than the

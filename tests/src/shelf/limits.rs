@@ -1,6 +1,7 @@
 //! Shelves at the limits of their measures: lists of 4,096 places, logs of 65,536 records, lengths past 2^32.
 
 use super::calls::{Buffer, Call, Measures, Record, Shelf};
+use super::damage::damage_list;
 use super::lists::{self, pick};
 use super::model::{lengths, OF_LIST};
 use super::stand::Stand;
@@ -58,19 +59,34 @@ fn filled(length: u128) -> Vec<u8> {
     (0..count).map(|at| (at % 251) as u8 + 1).collect()
 }
 
-/// Fails unless the calls on a shelf, and on the shelf with a list damaged in each way, do as the model does.
-fn tried(shelf: &Shelf, stand: &mut Stand, random: &mut Random) -> Result<(), String> {
+/// How often a list was damaged in each way.
+type Damaged = [usize; OF_LIST.len()];
+
+/// Fails unless a call on the shelf with a list damaged in each way gets 3. Each way is tried some times, until a list
+/// allows it.
+fn damaged(shelf: &Shelf, counts: &mut Damaged, stand: &mut Stand, random: &mut Random) -> Result<(), String> {
+    for (fault, count) in OF_LIST.into_iter().zip(counts) {
+        for _ in 0..8 {
+            let mut damaged = shelf.clone();
+            let mut list = lists::valid(&shelf.record, random);
+            if damage_list(fault, &mut list, &mut damaged.record, random).is_some() {
+                damaged.list = Buffer::of(list.bytes());
+                if stand.as_model(Call::Fail(0), &damaged)?.code() != 3 {
+                    return Err(format!("the model takes a list with {fault:?}; the shelf: {damaged}"));
+                }
+                *count += 1;
+                break;
+            }
+        }
+    }
+    Ok(())
+}
+
+/// Fails unless the calls on a shelf, and on the shelf with wrong lengths told, do as the model does.
+fn tried(shelf: &Shelf, stand: &mut Stand) -> Result<(), String> {
     let log = shelf.record.measures.d + 2;
     for call in [Call::Start, Call::Fail(log), Call::Fail(log + 1), Call::NewLog] {
         stand.as_model(call, shelf)?;
-    }
-    for fault in OF_LIST {
-        let mut damaged = shelf.clone();
-        let mut list = lists::valid(&shelf.record, random);
-        if lists::damage(fault, &mut list, &mut damaged.record, random).is_some() {
-            damaged.list = Buffer::of(list.bytes());
-            stand.as_model(Call::Fail(0), &damaged)?;
-        }
     }
     for wrong in [1, 1 << 31, 1 << 32, 1 << 33] {
         let mut damaged = shelf.clone();
@@ -107,7 +123,7 @@ fn failed_sets(m: Measures) -> [Vec<usize>; 6] {
     [vec![], vec![0, log], vec![0, last], vec![last, p], vec![0, q], vec![p, log]]
 }
 
-/// Whether one chain may hold all places of the longest list: each call then takes its time, and few are made.
+/// Whether one chain may hold all places of the longest list: a rebuild then takes its time, and none is made.
 fn is_slow(m: Measures) -> bool {
     m.h == 1 && m.s == 65536
 }
@@ -115,13 +131,12 @@ fn is_slow(m: Measures) -> bool {
 /// Fails unless the calls that serve blocks and bring parity up to date do as the model does on a shelf lent whole.
 fn served(shelf: &Shelf, stand: &mut Stand) -> Result<(), String> {
     let m = shelf.record.measures;
-    let (sets, requests) = if is_slow(m) { (2, 2) } else { (6, 4) };
-    for members in failed_sets(m).into_iter().take(sets) {
+    for members in failed_sets(m) {
         if shelf.record.mode == 1 && members.contains(&(m.d + 2)) {
             continue;
         }
         let mut shelf = with_failed(shelf, &members);
-        for (address, count) in ranges(m).into_iter().take(requests) {
+        for (address, count) in ranges(m) {
             request(Call::Read { address, count }, count, &mut shelf, stand)?;
             request(Call::Write { address, count }, count, &mut shelf, stand)?;
         }
@@ -137,7 +152,7 @@ fn served(shelf: &Shelf, stand: &mut Stand) -> Result<(), String> {
 /// Makes writes at the end of the log, one after another, then resyncs, as the model does them.
 fn worn_out(mut shelf: Shelf, stand: &mut Stand, random: &mut Random) -> Result<(), String> {
     let m = shelf.record.measures;
-    for turn in 0..if is_slow(m) { 4 } else { 24 } {
+    for turn in 0..24 {
         let (address, count) = if turn % 2 == 0 { (pick(m.d * m.s, random), 1) } else { ranges(m)[turn / 2 % 4] };
         request(Call::Write { address, count }, count, &mut shelf, stand)?;
         stand.hand_on(&mut shelf);
@@ -183,12 +198,13 @@ fn refused(shelf: &Shelf, stand: &mut Stand) -> Result<(), String> {
 /// Tries the shelves at the limits.
 pub fn group(seed: u64) -> Outcome {
     let random = &mut Random::new(seed, 7);
-    let mut stand = Stand::default();
+    let (mut stand, mut counts) = (Stand::default(), [0; OF_LIST.len()]);
     for measures in WHOLE {
         for used in [Used::Nothing, Used::All, Used::Most] {
             let shelf = shelf(measures, used, random);
+            damaged(&shelf, &mut counts, &mut stand, random)?;
             if used != Used::Most {
-                tried(&shelf, &mut stand, random)?;
+                tried(&shelf, &mut stand)?;
                 stand.as_model(Call::Format, &shelf)?;
             }
             served(&shelf, &mut stand)?;
@@ -198,9 +214,17 @@ pub fn group(seed: u64) -> Outcome {
     for measures in TOLD {
         for used in [Used::Nothing, Used::All] {
             let shelf = shelf(measures, used, random);
-            tried(&shelf, &mut stand, random)?;
+            damaged(&shelf, &mut counts, &mut stand, random)?;
+            tried(&shelf, &mut stand)?;
             refused(&shelf, &mut stand)?;
         }
     }
-    Ok(format!("{} calls on {} shelves at the limits; seed {seed}", stand.calls, 3 * WHOLE.len() + 2 * TOLD.len()))
+    let (shelves, least) = (3 * WHOLE.len() + 2 * TOLD.len(), counts.into_iter().min().unwrap_or(0));
+    match counts.iter().position(|&count| count == 0) {
+        Some(at) => Err(format!("no list was damaged to have {:?}", OF_LIST[at])),
+        None => Ok(format!(
+            "{} calls on {shelves} shelves at the limits, {least} lists at least damaged in each way; seed {seed}",
+            stand.calls
+        )),
+    }
 }

@@ -1,8 +1,8 @@
 //! The customer's marked examples K8 to K13 and the shelves that are wrong though they look sound, by hand.
 
 use super::calls::Call;
-use super::model::NONE;
-use super::script::Left::{Array, Data, Log, Says, Stripe};
+use super::model::NONE as N;
+use super::script::Left::{Array, Data, List, Log, Stripe};
 use super::script::{read, write, Script, Step};
 use super::stand::Stand;
 use crate::Outcome;
@@ -11,7 +11,7 @@ use crate::Outcome;
 const LOGGED: [Step; 3] = [
     (write(0, 3), &[1, 2, 3], [0, 0, 0, 0], &[], &[Array(&[1, 2, 3, 0, 9])]),
     (Call::Start, &[], [0, 1, 0, 0], &[], &[]),
-    (write(1, 1), &[7], [0, 1, 1, 2], &[], &[Array(&[1, 7, 3, 0, 9]), Log(&[2, 7, 0, 0]), Says(&[(1, [0, 1])])]),
+    (write(1, 1), &[7], [0, 1, 1, 2], &[], &[Array(&[1, 7, 3, 0, 9]), Log(&[2, 7, 0, 0]), List(&[N, 0, 1, 0, 1, N])]),
 ];
 
 /// K8: disks 0 and 1 gone; a read gives 1 and 7, and so does a rebuild.
@@ -41,7 +41,7 @@ const BESIDE_P: [Step; 4] = [
     (Call::Fail(0), &[], [0, 1, 1, 2], &[0], &[]),
     (Call::Fail(3), &[], [0, 1, 1, 2], &[0, 3], &[]),
     (read(0, 3), &[99, 99, 99], [0, 1, 1, 2], &[0, 3], &[Data(&[1, 7, 3])]),
-    (Call::Rebuild, &[], [0, 0, 0, 0], &[], &[Array(&[1, 7, 3, 5, 3]), Says(&[])]),
+    (Call::Rebuild, &[], [0, 0, 0, 0], &[], &[Array(&[1, 7, 3, 5, 3]), List(&[])]),
 ];
 
 /// The same with Q gone.
@@ -49,7 +49,7 @@ const BESIDE_Q: [Step; 4] = [
     (Call::Fail(4), &[], [0, 1, 1, 2], &[4], &[]),
     (Call::Fail(0), &[], [0, 1, 1, 2], &[0, 4], &[]),
     (read(0, 1), &[99], [0, 1, 1, 2], &[0, 4], &[Data(&[1])]),
-    (Call::Rebuild, &[], [0, 0, 0, 0], &[], &[Array(&[1, 7, 3, 5, 3]), Says(&[])]),
+    (Call::Rebuild, &[], [0, 0, 0, 0], &[], &[Array(&[1, 7, 3, 5, 3]), List(&[])]),
 ];
 
 /// K9 with P gone in place of disk 0: no data block is wanted, so the rebuild is not withheld; the log stays failed.
@@ -57,18 +57,18 @@ const WITHOUT_LOG_AND_P: [Step; 5] = [
     (Call::Fail(5), &[], [0, 2, 1, 2], &[5], &[]),
     (Call::Fail(3), &[], [0, 2, 1, 2], &[3, 5], &[]),
     (read(0, 3), &[99, 99, 99], [0, 2, 1, 2], &[3, 5], &[Data(&[1, 7, 3])]),
-    (Call::Rebuild, &[], [0, 0, 0, 0], &[5], &[Array(&[1, 7, 3, 5, 3]), Says(&[])]),
+    (Call::Rebuild, &[], [0, 0, 0, 0], &[5], &[Array(&[1, 7, 3, 5, 3]), List(&[])]),
     (Call::NewLog, &[], [0, 0, 0, 0], &[], &[]),
 ];
 
 /// Resync of K8's stripe, and full resync of it without the log.
 const RESYNCED: [Step; 2] = [
-    (Call::Resync, &[], [0, 0, 0, 0], &[], &[Array(&[1, 7, 3, 5, 3]), Says(&[]), Stripe(0)]),
+    (Call::Resync, &[], [0, 0, 0, 0], &[], &[Array(&[1, 7, 3, 5, 3]), List(&[]), Stripe(0)]),
     (Call::Resync, &[], [7, 0, 0, 0], &[], &[]),
 ];
 const FULLY_RESYNCED: [Step; 2] = [
     (Call::Fail(5), &[], [0, 2, 1, 2], &[5], &[]),
-    (Call::FullResync, &[], [0, 0, 0, 0], &[5], &[Array(&[1, 7, 3, 5, 3]), Says(&[])]),
+    (Call::FullResync, &[], [0, 0, 0, 0], &[5], &[Array(&[1, 7, 3, 5, 3]), List(&[])]),
 ];
 
 /// K10 and K11, with d 3 and two stripes: address 4 is stripe 1, index 1; address 5 count 1 passes, address 6 count 1
@@ -100,14 +100,14 @@ const K12: [Step; 4] = [
         &[5, 6],
         [0, 1, 3, 3],
         &[],
-        &[Array(&[5, 6, 3, 0, 9]), Log(&[3, 5, 6, 0]), Says(&[(0, [NONE, 1]), (1, [NONE, 2]), (2, [0, NONE])])],
+        &[Array(&[5, 6, 3, 0, 9]), Log(&[3, 5, 6, 0]), List(&[0, 1, 0, N, 1, 2, 1, N, 2, N, 2, 0, N, N])],
     ),
     (
         write(2, 1),
         &[8],
         [0, 1, 3, 4],
         &[],
-        &[Array(&[5, 6, 8, 0, 9]), Log(&[3, 5, 6, 8]), Says(&[(0, [NONE, 1]), (1, [NONE, 2]), (2, [0, 3])])],
+        &[Array(&[5, 6, 8, 0, 9]), Log(&[3, 5, 6, 8]), List(&[0, 1, 0, N, 1, 2, 1, N, 2, N, 2, 0, 3, N])],
     ),
 ];
 
@@ -115,10 +115,10 @@ const K12: [Step; 4] = [
 /// is written with its parity, its listed block is dropped, and the records are free again.
 const K13: [Step; 5] = [
     (Call::Start, &[], [0, 1, 0, 0], &[], &[]),
-    (write(0, 1), &[7], [0, 1, 1, 2], &[], &[Array(&[7, 0, 0, 0]), Log(&[0, 7, 0]), Says(&[(0, [0, 1])])]),
-    (write(0, 1), &[8], [0, 1, 1, 3], &[], &[Array(&[8, 0, 0, 0]), Log(&[0, 7, 8]), Says(&[(0, [0, 2])])]),
-    (write(1, 1), &[1], [0, 1, 0, 0], &[], &[Array(&[8, 1, 9, 10]), Says(&[])]),
-    (write(1, 1), &[2], [0, 1, 1, 2], &[], &[Array(&[8, 2, 9, 10]), Log(&[1, 2, 8]), Says(&[(1, [0, 1])])]),
+    (write(0, 1), &[7], [0, 1, 1, 2], &[], &[Array(&[7, 0, 0, 0]), Log(&[0, 7, 0]), List(&[0, 0, 0, 1, N])]),
+    (write(0, 1), &[8], [0, 1, 1, 3], &[], &[Array(&[8, 0, 0, 0]), Log(&[0, 7, 8]), List(&[0, 0, 0, 2, N])]),
+    (write(1, 1), &[1], [0, 1, 0, 0], &[], &[Array(&[8, 1, 9, 10]), List(&[])]),
+    (write(1, 1), &[2], [0, 1, 1, 2], &[], &[Array(&[8, 2, 9, 10]), Log(&[1, 2, 8]), List(&[0, 1, 0, 1, N])]),
 ];
 
 /// A log of four records and two stripes of d 2: a stripe that finds no room is written with its parity and leaves the
@@ -131,14 +131,14 @@ const NO_ROOM: [Step; 6] = [
         &[1, 2],
         [0, 1, 2, 2],
         &[],
-        &[Array(&[1, 0, 2, 0, 0, 0, 0, 0]), Log(&[1, 2, 0, 0]), Says(&[(0, [NONE, 0]), (1, [NONE, 1])])],
+        &[Array(&[1, 0, 2, 0, 0, 0, 0, 0]), Log(&[1, 2, 0, 0]), List(&[0, 1, N, 0, N, 0, N, 1, N, 1, N])],
     ),
     (
         write(1, 1),
         &[3],
         [0, 1, 2, 3],
         &[],
-        &[Array(&[1, 0, 3, 0, 0, 0, 0, 0]), Log(&[1, 2, 3, 0]), Says(&[(0, [NONE, 0]), (1, [NONE, 2])])],
+        &[Array(&[1, 0, 3, 0, 0, 0, 0, 0]), Log(&[1, 2, 3, 0]), List(&[0, 1, N, 0, N, 0, N, 1, N, 2, N])],
     ),
     (write(2, 1), &[4], [0, 1, 2, 3], &[], &[Array(&[1, 4, 3, 0, 0, 4, 0, 4])]),
     (
@@ -146,9 +146,9 @@ const NO_ROOM: [Step; 6] = [
         &[5, 6, 7, 8],
         [0, 1, 2, 2],
         &[],
-        &[Array(&[5, 7, 6, 8, 3, 4, 9, 4]), Log(&[7, 8, 3, 0]), Says(&[(2, [NONE, 0]), (3, [NONE, 1])])],
+        &[Array(&[5, 7, 6, 8, 3, 4, 9, 4]), Log(&[7, 8, 3, 0]), List(&[1, N, 0, 2, N, 0, N, 3, N, 1, N])],
     ),
-    (Call::Resync, &[], [0, 0, 0, 0], &[], &[Array(&[5, 7, 6, 8, 3, 15, 9, 23]), Says(&[]), Stripe(1)]),
+    (Call::Resync, &[], [0, 0, 0, 0], &[], &[Array(&[5, 7, 6, 8, 3, 15, 9, 23]), List(&[]), Stripe(1)]),
 ];
 
 /// Three stripes of d 2 wait: three resyncs from the lowest on end in mode 0, and a write in between lists nothing. The
@@ -160,14 +160,18 @@ const THREE_WAIT: [Step; 8] = [
         &[1],
         [0, 1, 1, 2],
         &[],
-        &[Array(&[0, 0, 0, 0, 0, 1, 0, 0, 0, 0, 0, 0]), Log(&[0, 1, 0, 0, 0, 0]), Says(&[(5, [0, 1])])],
+        &[Array(&[0, 0, 0, 0, 0, 1, 0, 0, 0, 0, 0, 0]), Log(&[0, 1, 0, 0, 0, 0]), List(&[N, 0, 5, 0, 1, N])],
     ),
     (
         write(0, 1),
         &[2],
         [0, 1, 2, 4],
         &[],
-        &[Array(&[2, 0, 0, 0, 0, 1, 0, 0, 0, 0, 0, 0]), Log(&[0, 1, 0, 2, 0, 0]), Says(&[(0, [2, 3]), (5, [0, 1])])],
+        &[
+            Array(&[2, 0, 0, 0, 0, 1, 0, 0, 0, 0, 0, 0]),
+            Log(&[0, 1, 0, 2, 0, 0]),
+            List(&[0, 1, 0, 2, 3, N, 5, 0, 1, N]),
+        ],
     ),
     (
         write(2, 1),
@@ -177,7 +181,7 @@ const THREE_WAIT: [Step; 8] = [
         &[
             Array(&[2, 4, 0, 0, 0, 1, 0, 0, 0, 0, 0, 0]),
             Log(&[0, 1, 0, 2, 0, 4]),
-            Says(&[(0, [2, 3]), (2, [4, 5]), (5, [0, 1])]),
+            List(&[0, 2, 0, 2, 3, 1, 2, 4, 5, N, 5, 0, 1, N]),
         ],
     ),
     (
@@ -185,11 +189,17 @@ const THREE_WAIT: [Step; 8] = [
         &[],
         [0, 2, 2, 6],
         &[],
-        &[Array(&[2, 4, 0, 0, 0, 1, 2, 0, 0, 2, 0, 0]), Says(&[(2, [4, 5]), (5, [0, 1])]), Stripe(0)],
+        &[Array(&[2, 4, 0, 0, 0, 1, 2, 0, 0, 2, 0, 0]), List(&[0, 1, 2, 4, 5, N, 5, 0, 1, N]), Stripe(0)],
     ),
     (Call::Fail(4), &[], [0, 2, 2, 6], &[4], &[]),
-    (write(3, 1), &[8], [0, 2, 1, 6], &[4], &[Array(&[2, 4, 0, 0, 8, 1, 2, 12, 0, 2, 20, 0]), Says(&[(5, [0, 1])])]),
-    (Call::Resync, &[], [0, 0, 0, 0], &[4], &[Array(&[2, 4, 0, 0, 8, 1, 2, 12, 1, 2, 20, 2]), Says(&[]), Stripe(2)]),
+    (
+        write(3, 1),
+        &[8],
+        [0, 2, 1, 6],
+        &[4],
+        &[Array(&[2, 4, 0, 0, 8, 1, 2, 12, 0, 2, 20, 0]), List(&[N, 0, 5, 0, 1, N])],
+    ),
+    (Call::Resync, &[], [0, 0, 0, 0], &[4], &[Array(&[2, 4, 0, 0, 8, 1, 2, 12, 1, 2, 20, 2]), List(&[]), Stripe(2)]),
 ];
 
 /// Plays the scripts.

@@ -2,13 +2,17 @@
 
 mod book;
 pub mod calls;
+mod clauses;
 mod conditions;
+mod damage;
 pub mod due;
 pub mod events;
+mod layout;
 pub mod limits;
 pub mod lists;
 pub mod marked;
 pub mod model;
+pub mod order;
 mod pair;
 pub mod printed;
 pub mod random;

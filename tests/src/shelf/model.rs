@@ -2,7 +2,9 @@
 //! and every fault for which one of the rows 1 to 3 applies.
 
 use super::calls::{Call, Measures, Record, Shelf};
+use super::clauses::list_walk;
 use super::conditions::conditions;
+use super::layout;
 
 /// The word of the list that means none.
 pub const NONE: u32 = 0xffff_ffff;
@@ -35,9 +37,13 @@ pub enum Fault {
     LogLength,
     ListLength,
     ChainRepeats,
-    ChainsMeet,
+    HeadMeets,
+    NextMeets,
     HeadLeaves,
     NextLeaves,
+    HeadToUnused,
+    NextToUnused,
+    ChainSkips,
     FewerThanListed,
     MoreThanListed,
     AddressAbove,
@@ -47,6 +53,14 @@ pub enum Fault {
     CurAboveNext,
     BothNone,
     StripeNotWhole,
+    GapAtStart,
+    GapBetween,
+    PlacesFall,
+    ChainFalls,
+    UnusedAddress,
+    UnusedOri,
+    UnusedCur,
+    UnusedNext,
 }
 
 use Fault::*;
@@ -70,12 +84,16 @@ pub const OF_RECORD: [Fault; 9] = [
 /// The faults of the lengths.
 pub const OF_LENGTHS: [Fault; 3] = [ArrayLength, LogLength, ListLength];
 
-/// The faults of the list.
-pub const OF_LIST: [Fault; 13] = [
+/// The faults of the list: of what it says, and of its arrangement.
+pub const OF_LIST: [Fault; 25] = [
     ChainRepeats,
-    ChainsMeet,
+    HeadMeets,
+    NextMeets,
     HeadLeaves,
     NextLeaves,
+    HeadToUnused,
+    NextToUnused,
+    ChainSkips,
     FewerThanListed,
     MoreThanListed,
     AddressAbove,
@@ -85,6 +103,14 @@ pub const OF_LIST: [Fault; 13] = [
     CurAboveNext,
     BothNone,
     StripeNotWhole,
+    GapAtStart,
+    GapBetween,
+    PlacesFall,
+    ChainFalls,
+    UnusedAddress,
+    UnusedOri,
+    UnusedCur,
+    UnusedNext,
 ];
 
 /// The least and the greatest value of each measure, in the order of the record.
@@ -96,7 +122,7 @@ pub struct Faults(u64);
 
 impl Faults {
     /// Adds a fault where it applies.
-    fn add(&mut self, fault: Fault, applies: bool) {
+    pub fn add(&mut self, fault: Fault, applies: bool) {
         self.0 |= u64::from(applies) << fault as u32;
     }
 
@@ -117,13 +143,19 @@ impl Faults {
         names.join(", ")
     }
 
+    /// How many there are.
+    pub fn count(self) -> u32 {
+        self.0.count_ones()
+    }
+
     /// Whether this one is there and no other.
     pub fn only(self, fault: Fault) -> bool {
         self.0 == 1 << fault as u32
     }
 }
 
-/// What applies to a call: the faults of each of the rows 1 to 3, and the numbers of all rows, bit n for number n.
+/// What applies to a call: the faults of each of the rows 1 to 3, and the numbers of all rows, bit n for number n. That
+/// row 3 applies is found without the faults, by laying the list out anew.
 pub struct Findings {
     pub faults: [Faults; 3],
     pub numbers: u32,
@@ -136,6 +168,11 @@ impl Findings {
             0 => 0,
             numbers => numbers.trailing_zeros() as usize,
         }
+    }
+
+    /// Whether row 3 applies just where one of its faults is found.
+    pub fn agree(&self) -> bool {
+        self.faults[2].none() == (self.numbers & 1 << 3 == 0)
     }
 }
 
@@ -189,90 +226,23 @@ fn length_faults(shelf: &Shelf) -> Faults {
     faults
 }
 
-/// What a walk over the chains of a list gathers: which chain each place is in, and the addresses below d times S.
-pub struct Walk {
-    pub faults: Faults,
-    pub is_listed: Vec<bool>,
-    chain_of: Vec<Option<usize>>,
-    lack_ori: Vec<usize>,
-}
-
-/// Walks a list of the right length, with measures in their ranges.
-pub fn list_walk(r: &Record, list: &[u8]) -> Walk {
-    let Measures { d, s, h, e, .. } = r.measures;
-    let word = |at: usize| u32::from_le_bytes([list[4 * at], list[4 * at + 1], list[4 * at + 2], list[4 * at + 3]]);
-    let mut walk = Walk {
-        faults: Faults::default(),
-        chain_of: vec![None; e],
-        is_listed: vec![false; d * s],
-        lack_ori: Vec::new(),
-    };
-    for slot in 0..h {
-        let (mut at, mut leaves) = (word(slot), HeadLeaves);
-        while at != NONE && goes_on(&mut walk, slot, at as usize, leaves) {
-            let first = h + 4 * at as usize;
-            entry_faults(r, slot, [word(first), word(first + 1), word(first + 2)], &mut walk);
-            (at, leaves) = (word(first + 3), NextLeaves);
-        }
-    }
-    let listed = walk.chain_of.iter().filter(|chain| chain.is_some()).count();
-    walk.faults.add(FewerThanListed, listed < r.listed);
-    walk.faults.add(MoreThanListed, listed > r.listed);
-    let whole = |address: usize| walk.is_listed[address / d * d..][..d].iter().all(|&listed| listed);
-    let all_whole = walk.lack_ori.iter().all(|&address| whole(address));
-    walk.faults.add(StripeNotWhole, !all_whole);
-    walk
-}
-
-/// Comes to a place from a slot's chain; whether the chain can be followed further.
-fn goes_on(walk: &mut Walk, slot: usize, place: usize, leaves: Fault) -> bool {
-    match walk.chain_of.get(place) {
-        None => walk.faults.add(leaves, true),
-        Some(Some(chain)) if *chain == slot => walk.faults.add(ChainRepeats, true),
-        Some(Some(_)) => walk.faults.add(ChainsMeet, true),
-        Some(None) => {
-            walk.chain_of[place] = Some(slot);
-            return true;
-        }
-    }
-    false
-}
-
-/// Adds the faults of an entry in a slot's chain: its address, Ori and Cur.
-fn entry_faults(r: &Record, slot: usize, [address, ori, cur]: [u32; 3], walk: &mut Walk) {
-    let block = address as usize;
-    let bad = |record: u32| record != NONE && record as usize >= r.next;
-    walk.faults.add(WrongSlot, block % r.measures.h != slot);
-    walk.faults.add(OriAboveNext, bad(ori));
-    walk.faults.add(CurAboveNext, bad(cur));
-    walk.faults.add(BothNone, ori == NONE && cur == NONE);
-    match walk.is_listed.get(block) {
-        None => walk.faults.add(AddressAbove, true),
-        Some(&listed) => {
-            walk.faults.add(AddressTwice, listed);
-            walk.is_listed[block] = true;
-            if ori == NONE {
-                walk.lack_ori.push(block);
-            }
-        }
-    }
-}
-
 /// Finds all that applies to a call. Row 3 is looked for only where there is a list of the right length; a stripe waits
 /// if a walk over that list, be it sound or not, comes to a block of it.
 pub fn findings(call: Call, shelf: &Shelf) -> Findings {
-    let measures = measure_faults(shelf.record.measures);
+    let r = &shelf.record;
+    let measures = measure_faults(r.measures);
     let mut faults = [measures, length_faults(shelf), Faults::default()];
-    let mut is_listed = Vec::new();
+    let (mut is_listed, mut is_right) = (Vec::new(), true);
     if call != Call::Format {
-        record_faults(&shelf.record, &mut faults[0]);
+        record_faults(r, &mut faults[0]);
         if call != Call::FullResync && measures.none() && !faults[1].has(ListLength) {
-            let walk = list_walk(&shelf.record, &shelf.list.bytes);
+            let walk = list_walk(r, &shelf.list.bytes);
             (faults[2], is_listed) = (walk.faults, walk.is_listed);
+            is_right = layout::is_right(r, &shelf.list.bytes);
         }
     }
-    let mut numbers = conditions(call, shelf, &is_listed);
-    for (row, found) in faults.iter().enumerate() {
+    let mut numbers = conditions(call, shelf, &is_listed) | u32::from(!is_right) << 3;
+    for (row, found) in faults.iter().take(2).enumerate() {
         numbers |= u32::from(!found.none()) << (row + 1);
     }
     Findings { faults, numbers }

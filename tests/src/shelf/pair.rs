@@ -2,7 +2,7 @@
 
 use super::book::Book;
 use super::calls::{Buffer, Call, Measures, Record, Shelf};
-use super::lists::List;
+use super::layout::List;
 use super::model::lengths;
 use super::stand::Stand;
 use crate::model::made;

@@ -37,7 +37,7 @@ resync 0 0 0 0 0
 fail 6 0 0 0 0
 ";
 
-/// What the session leaves in the array, by member, and in the log.
+/// What the session leaves in the array, by member, and in the log; the list is all none.
 const ARRAY: [u8; 10] = [0, 0, 9, 5, 0, 0, 9, 5, 18, 10];
 const LOG: [u8; 4] = [0, 7, 9, 0];
 
@@ -97,9 +97,10 @@ fn session(spoilt: Option<u8>, stand: &mut Stand) -> Result<(), String> {
         shelf.data = Buffer::of(data);
         output += &printed(name, call, &mut shelf, stand)?;
     }
-    match output == OUTPUT && shelf.array.bytes == ARRAY && shelf.log.bytes == LOG {
+    let Shelf { array, log, list, .. } = &shelf;
+    match output == OUTPUT && array.bytes == ARRAY && log.bytes == LOG && list.bytes == [255; 72] {
         true => Ok(()),
-        false => Err(format!("{output}is printed, left are {:?} and {:?}", shelf.array.bytes, shelf.log.bytes)),
+        false => Err(format!("{output}is printed, left are {:?}, {:?} and {shelf}", array.bytes, log.bytes)),
     }
 }
 

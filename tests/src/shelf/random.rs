@@ -1,7 +1,9 @@
 //! Random shelves against the model: sound ones, ones damaged in one or two ways, and nonsense.
 
 use super::calls::{Buffer, Call, Measures, Record, Shelf};
-use super::lists::{self, pick, List};
+use super::damage::damage_list;
+use super::layout::List;
+use super::lists::{self, pick};
 use super::model::{self, Fault, OF_LENGTHS, OF_LIST, OF_MEASURES, OF_RECORD, RANGES};
 use super::records;
 use super::requests;
@@ -61,7 +63,7 @@ fn damage(fault: Fault, plan: &mut Plan, random: &mut Random) -> Option<()> {
         return wrong_length(fault, plan, random);
     }
     if OF_LIST.contains(&fault) {
-        return lists::damage(fault, &mut plan.list, &mut plan.record, random);
+        return damage_list(fault, &mut plan.list, &mut plan.record, random);
     }
     records::damage(fault, &mut plan.record, random)?;
     if OF_MEASURES.contains(&fault) && random.below(8) != 0 {

@@ -1,18 +1,18 @@
 //! Calls on a shelf with what is due given by hand. The model is not asked.
 
 use super::calls::{Buffer, Call, Measures, Record, Shelf};
-use super::due::{Due, ListDue};
-use super::model::lengths;
+use super::due::Due;
+use super::model::{lengths, NONE};
 use super::stand::Stand;
 
-/// What a call leaves where it is not what was there: array, log, caller's data, what the list says of each listed
-/// address as Ori and Cur; or the stripe that resync tells where it is not S.
+/// What a call leaves where it is not what was there: array, log, caller's data, the words of the list up to the last
+/// one that is not none; or the stripe that resync tells where it is not S.
 #[derive(Clone, Copy)]
 pub enum Left {
     Array(&'static [u8]),
     Log(&'static [u8]),
     Data(&'static [u8]),
-    Says(&'static [(usize, [u32; 2])]),
+    List(&'static [u32]),
     Stripe(usize),
 }
 
@@ -54,14 +54,26 @@ impl Script {
         due.record = Record { measures: m, mode: 0, next: 0, listed: 0, failed: [0; 19] };
         due.array = Some(vec![0; script.shelf.array.told]);
         due.log = Some(vec![0; script.shelf.log.told]);
-        due.list = ListDue::Bytes(vec![255; script.shelf.list.told]);
+        due.list = Some(vec![255; script.shelf.list.told]);
         stand.expect(Call::Format, &script.shelf, &due)?;
         stand.hand_on(&mut script.shelf);
         Ok(script)
     }
 
+    /// Puts these words into the list, from the first one on; the rest becomes none.
+    pub fn put_list(&mut self, words: &[u32]) {
+        self.shelf.list.bytes = self.list(words);
+    }
+
+    /// The bytes of a list that begins with these words and is none from there on.
+    fn list(&self, words: &[u32]) -> Vec<u8> {
+        let mut bytes: Vec<u8> = words.iter().flat_map(|word| word.to_le_bytes()).collect();
+        bytes.resize(self.shelf.list.told, NONE as u8);
+        bytes
+    }
+
     /// Makes the steps one after another, the bytes of failed members changing before each.
-    pub fn play(mut self, steps: &[Step], stand: &mut Stand) -> Result<(), String> {
+    pub fn play(&mut self, steps: &[Step], stand: &mut Stand) -> Result<(), String> {
         for (number, step) in steps.iter().enumerate() {
             self.spoil();
             self.step(step, stand).map_err(|fault| format!("step {}: {fault}", number + 1))?;
@@ -92,7 +104,7 @@ impl Script {
                 Left::Array(bytes) => due.array = Some(bytes.to_vec()),
                 Left::Log(bytes) => due.log = Some(bytes.to_vec()),
                 Left::Data(bytes) => due.data = Some(bytes.to_vec()),
-                Left::Says(entries) => due.list = ListDue::Says(entries.iter().copied().collect()),
+                Left::List(words) => due.list = Some(self.list(words)),
                 Left::Stripe(stripe) => due.stripe = Some(stripe),
             }
         }

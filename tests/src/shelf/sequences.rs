@@ -1,14 +1,16 @@
 //! Random sequences of calls from a fresh shelf, against the model and against the book. Each call gets the record and
-//! the buffers as the one before left them, save that the bytes of failed members change at will, and that the list is
-//! now and then arranged in another way that says the same.
+//! the buffers as the one before left them, save that the bytes of failed members change at will. Now and then the list
+//! is arranged in another way that says the same, and the call is refused before it is made.
 
 use super::book::Book;
 use super::calls::{Buffer, Call, Measures, Record, Shelf};
-use super::lists::{self, one_of, pick, List};
+use super::layout::List;
+use super::lists::{self, one_of, pick};
 use super::pair::Pair;
 use super::records;
 use super::requests::{self, Request};
 use super::stand::Stand;
+use super::tally;
 use crate::random::Random;
 use crate::Outcome;
 
@@ -135,11 +137,20 @@ fn garble(shelf: &mut Shelf, random: &mut Random) {
     }
 }
 
-/// Arranges the list in another way that says the same.
-fn rearrange(shelf: &mut Shelf, random: &mut Random) {
-    let m = shelf.record.measures;
+/// Makes a call on the shelf with its list arranged in another way that says the same. Fails unless it gets 3, or is
+/// full resync, which does not look at the list. Hands back the number; none where no other arrangement was found.
+fn rearranged(call: Call, shelf: &Shelf, stand: &mut Stand, random: &mut Random) -> Result<Option<usize>, String> {
+    let (mut shelf, m) = (shelf.clone(), shelf.record.measures);
     let entries = List::of(m, &shelf.list.bytes).entries();
-    shelf.list.bytes = lists::arranged(m, &entries, random).bytes();
+    let bytes = lists::shuffled(m, &entries, random).bytes();
+    if bytes == shelf.list.bytes {
+        return Ok(None);
+    }
+    shelf.list.bytes = bytes;
+    match stand.as_model(call, &shelf)?.code() {
+        code if code == 3 || call == Call::FullResync => Ok(Some(code)),
+        code => Err(format!("the list is in another arrangement, but {call:?} answers {code}; the shelf: {shelf}")),
+    }
 }
 
 /// Resyncs a shelf without failed array members to the end: as many calls as stripes wait, and no fewer.
@@ -154,12 +165,14 @@ fn resynced(pair: &mut Pair, stand: &mut Stand) -> Result<(), String> {
     Ok(())
 }
 
-/// What the sequences came through: the calls by number, and how many rebuilds and reads were withheld.
+/// What the sequences came through: the calls by number, how many rebuilds and reads were withheld, and how many calls of
+/// each kind were refused for the arrangement of the list.
 #[derive(Default)]
 struct Counts {
     accepted: usize,
     given: [usize; 15],
     withheld: [usize; 2],
+    rearranged: [usize; 9],
 }
 
 impl Counts {
@@ -170,8 +183,18 @@ impl Counts {
         self.withheld[usize::from(call == Call::Rebuild)] += usize::from(code == 14);
     }
 
-    /// Fails unless numbers 4 to 14 were each given so many times, 14 by read and by rebuild.
+    /// Counts a call on a list in another arrangement.
+    fn count_rearranged(&mut self, call: Call, code: Option<usize>) {
+        self.rearranged[tally::index(call)] += usize::from(code == Some(3));
+    }
+
+    /// Fails unless numbers 4 to 14 were each given so many times, 14 by read and by rebuild, and 3 by each call that
+    /// tests the list.
     fn complete(&self, at_least: usize) -> Result<(), String> {
+        if let Some(call) = (1..8).find(|&call| self.rearranged[call] < at_least) {
+            let (name, count) = (tally::name(call), self.rearranged[call]);
+            return Err(format!("{name} was refused {count} times for the arrangement of the list, not {at_least}"));
+        }
         if let Some(code) = (4..15).find(|&code| self.given[code] < at_least) {
             return Err(format!("{code} was given {} times, not {at_least}", self.given[code]));
         }
@@ -189,10 +212,11 @@ fn sequence(stand: &mut Stand, counts: &mut Counts, random: &mut Random) -> Resu
     let (is_busy, is_small) = (random.below(2) == 0, pair.shelf.array.told <= SMALL);
     for _ in 0..pick(LONGEST, random) {
         garble(&mut pair.shelf, random);
-        if random.below(4) == 0 {
-            rearrange(&mut pair.shelf, random);
-        }
         let (call, mut data) = next_call(&pair.shelf, is_busy, random);
+        if random.below(4) == 0 {
+            pair.shelf.data = data.clone();
+            counts.count_rearranged(call, rearranged(call, &pair.shelf, stand, random)?);
+        }
         if random.below(8) == 0 {
             same_again(call, &pair.book, &mut data);
         }
@@ -218,7 +242,11 @@ pub fn group(seed: u64) -> Outcome {
     let least = stand.seen.complete(20)?;
     Ok(format!(
         "{} calls in {SEQUENCES} sequences as the model and the book have them, {} accepted, {} reads and {} rebuilds \
-         withheld; each way of their work {least} times at least; seed {seed}",
-        stand.calls, counts.accepted, counts.withheld[0], counts.withheld[1]
+         withheld, {} refused for the arrangement of the list; each way of their work {least} times at least; seed {seed}",
+        stand.calls,
+        counts.accepted,
+        counts.withheld[0],
+        counts.withheld[1],
+        counts.rearranged.iter().sum::<usize>()
     ))
 }

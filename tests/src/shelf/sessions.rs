@@ -2,7 +2,7 @@
 //! cover, and others worked out by hand. The model is not asked.
 
 use super::calls::{Buffer, Call, Measures, Record, Shelf};
-use super::due::{Due, ListDue};
+use super::due::Due;
 use super::model::NONE;
 use super::stand::Stand;
 use crate::model::made_all;
@@ -64,10 +64,9 @@ const WITHOUT_LOG: [Step; 5] = [
 /// The last line of the customer's session.
 const RESYNCED: [Step; 1] = [(Call::Fail(6), "fail 6 0 0 0 0", &[])];
 
-/// A list of the session's measures with these heads and this entry on place 2.
+/// A list of the session's measures with these heads and this entry on place 0.
 fn list(heads: [u32; 2], entry: [u32; 4]) -> Vec<u8> {
-    let junk = [7; 4];
-    [&heads[..], &junk, &junk, &entry, &junk].concat().iter().flat_map(|word| word.to_le_bytes()).collect()
+    [&heads[..], &entry, &[NONE; 12]].concat().iter().flat_map(|word| word.to_le_bytes()).collect()
 }
 
 /// A shelf of the session's measures.
@@ -92,30 +91,32 @@ fn replayed(mut shelf: Shelf, steps: &[Step], stand: &mut Stand) -> Result<(), S
         let mut due = Due::nothing(call, &shelf, fields[0]);
         due.record = after.record;
         (due.array, due.log) = (Some(after.array.bytes.clone()), Some(after.log.bytes.clone()));
-        due.list = ListDue::Bytes(after.list.bytes.clone());
+        due.list = Some(after.list.bytes.clone());
         stand.expect(call, &shelf, &due).map_err(|fault| format!("{line}: {fault}"))?;
         shelf = after;
     }
     Ok(())
 }
 
-/// A listed block of the shelf with d times S 6, four places and next 2: its slot, its place, address, Ori and Cur, and
-/// the number that start of mode 1 answers. Each is at a limit, on one side or the other.
-const EDGES: [(usize, u32, [u32; 3], usize); 17] = [
-    (1, 2, [5, 0, 1], 7),
-    (0, 2, [6, 0, 1], 3),
-    (1, 2, [7, 0, 1], 3),
-    (1, 2, [NONE, 0, 1], 3),
-    (0, 2, [4, 0, 1], 7),
-    (1, 2, [4, 0, 1], 3),
-    (0, 2, [0, 1, NONE], 7),
-    (0, 2, [0, 2, NONE], 3),
-    (0, 2, [0, 1, 2], 3),
-    (0, 2, [0, 1, 1], 7),
-    (0, 2, [0, NONE, 1], 3),
-    (0, 2, [0, NONE, NONE], 3),
-    (0, 2, [0, NONE - 1, 1], 3),
-    (0, 2, [0, 1, NONE - 1], 3),
+/// A listed block of the shelf with d times S 6, four places and next 2: its slot, to which place the head leads,
+/// address, Ori and Cur on place 0, and the number that start of mode 1 answers. Each is at a limit, on one side or the
+/// other.
+const EDGES: [(usize, u32, [u32; 3], usize); 18] = [
+    (1, 0, [5, 0, 1], 7),
+    (0, 0, [6, 0, 1], 3),
+    (1, 0, [7, 0, 1], 3),
+    (1, 0, [NONE, 0, 1], 3),
+    (0, 0, [4, 0, 1], 7),
+    (1, 0, [4, 0, 1], 3),
+    (0, 0, [0, 1, NONE], 7),
+    (0, 0, [0, 2, NONE], 3),
+    (0, 0, [0, 1, 2], 3),
+    (0, 0, [0, 1, 1], 7),
+    (0, 0, [0, NONE, 1], 3),
+    (0, 0, [0, NONE, NONE], 3),
+    (0, 0, [0, NONE - 1, 1], 3),
+    (0, 0, [0, 1, NONE - 1], 3),
+    (0, 1, [0, 0, 1], 3),
     (0, 4, [0, 0, 1], 3),
     (0, NONE - 1, [0, 0, 1], 3),
     (0, NONE, [0, 0, 1], 3),
@@ -135,8 +136,8 @@ fn edges(stand: &mut Stand) -> Result<(), String> {
 /// Replays the sessions.
 pub fn group(_seed: u64) -> Outcome {
     let mut stand = Stand::default();
-    let empty = || list([NONE; 2], [9; 4]);
-    let logged = || shelf(1, 2, 1, [0, 0, 7, 0, 0, 0], [0, 7, 88, 99], list([NONE, 2], [1, 0, 1, NONE]));
+    let empty = || list([NONE; 2], [NONE; 4]);
+    let logged = || shelf(1, 2, 1, [0, 0, 7, 0, 0, 0], [0, 7, 88, 99], list([NONE, 0], [1, 0, 1, NONE]));
     let mut junk = shelf(0, 0, 0, [1, 2, 3, 4, 5, 6], [1, 2, 3, 4], list([0, 1], [9; 4]));
     junk.array.bytes[6..].fill(77);
     replayed(junk, &FRESH, &mut stand)?;

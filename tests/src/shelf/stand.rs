@@ -2,9 +2,8 @@
 //! handed back and all buffers, the caller's data included, are compared with what is due.
 
 use super::calls::{Call, Record, Shelf};
-use super::due::{Due, Entries, ListDue};
+use super::due::Due;
 use super::events::Seen;
-use super::lists::List;
 use super::model;
 use super::works;
 
@@ -59,23 +58,6 @@ impl Room {
         match (0..expected.len()).find(|&at| found[at] != expected[at]) {
             None => Ok(()),
             Some(at) => Err(format!("byte {at} is {}, not {}", found[at], expected[at])),
-        }
-    }
-
-    /// Fails unless the copy is a list that number 3 accepts beside the record and that says this.
-    fn says(&self, record: &Record, entries: &Entries) -> Result<(), String> {
-        self.guarded()?;
-        let faults = model::list_walk(record, self.found()).faults;
-        if !faults.none() {
-            return Err(format!("number 3 would be given for {}", faults.names()));
-        }
-        let found = List::of(record.measures, self.found()).entries();
-        match found.iter().chain(entries).find(|(address, _)| found.get(address) != entries.get(address)) {
-            None => Ok(()),
-            Some((address, _)) => {
-                let (said, due) = (found.get(address), entries.get(address));
-                Err(format!("block {address} has Ori and Cur {said:x?}, not {due:x?}"))
-            }
         }
     }
 }
@@ -140,21 +122,21 @@ impl Stand {
 
     /// Fails unless the buffers hold what is due, and names the one that does not.
     fn buffers(&self, shelf: &Shelf, due: &Due) -> Result<(), (&'static str, String)> {
-        let (array, log, data) = (&shelf.array.bytes, &shelf.log.bytes, &shelf.data.bytes);
-        self.array.holds(due.array.as_ref().unwrap_or(array)).map_err(|what| ("array", what))?;
-        self.log.holds(due.log.as_ref().unwrap_or(log)).map_err(|what| ("log", what))?;
-        self.data.holds(due.data.as_ref().unwrap_or(data)).map_err(|what| ("caller's data", what))?;
-        let list = match &due.list {
-            ListDue::Kept => self.list.holds(&shelf.list.bytes),
-            ListDue::Bytes(bytes) => self.list.holds(bytes),
-            ListDue::Says(entries) => self.list.says(&due.record, entries),
-        };
-        list.map_err(|what| ("list", what))
+        let Shelf { array, log, list, data, .. } = shelf;
+        self.array.holds(due.array.as_ref().unwrap_or(&array.bytes)).map_err(|what| ("array", what))?;
+        self.log.holds(due.log.as_ref().unwrap_or(&log.bytes)).map_err(|what| ("log", what))?;
+        self.list.holds(due.list.as_ref().unwrap_or(&list.bytes)).map_err(|what| ("list", what))?;
+        self.data.holds(due.data.as_ref().unwrap_or(&data.bytes)).map_err(|what| ("caller's data", what))
     }
 
-    /// Fails unless a call does as the model does. Hands back what the model found.
+    /// Fails unless a call does as the model does. Hands back what the model found. Fails too if the model's two ways to
+    /// test a list do not agree.
     pub fn as_model(&mut self, call: Call, shelf: &Shelf) -> Result<model::Findings, String> {
         let found = model::findings(call, shelf);
+        if !found.agree() {
+            let (code, names) = (found.code(), found.faults[2].names());
+            return Err(format!("by the model {call:?} answers {code} though it finds [{names}]; the shelf: {shelf}"));
+        }
         let (due, events) = works::outcome(call, shelf, found.code());
         self.expect(call, shelf, &due)?;
         self.seen.count(events);

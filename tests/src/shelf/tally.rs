@@ -36,11 +36,11 @@ fn looks_for(name: &str, faults: &[Fault]) -> bool {
 /// Counts for each call: by the number answered and another that applied too (itself where none did), and by fault.
 pub struct Tally {
     numbers: [[[usize; 15]; 15]; 9],
-    alone: [[usize; 40]; 9],
+    alone: [[usize; 64]; 9],
 }
 
 /// The index of a call in the counts.
-fn index(call: Call) -> usize {
+pub fn index(call: Call) -> usize {
     match call {
         Call::Format => 0,
         Call::Start => 1,
@@ -54,10 +54,15 @@ fn index(call: Call) -> usize {
     }
 }
 
+/// The name of the call that has this index.
+pub fn name(index: usize) -> &'static str {
+    NUMBERS[index].0
+}
+
 impl Tally {
     /// Counts of nothing so far.
     pub fn new() -> Tally {
-        Tally { numbers: [[[0; 15]; 15]; 9], alone: [[0; 40]; 9] }
+        Tally { numbers: [[[0; 15]; 15]; 9], alone: [[0; 64]; 9] }
     }
 
     /// Counts a case.

@@ -1,12 +1,11 @@
 //! Walks of tiny shelves: from a fresh one on, every call is made on every shelf that is reached, the nearest first,
 //! against the model and against the book.
 
-use std::collections::{HashSet, VecDeque};
+use std::collections::{HashMap, HashSet, VecDeque};
 
 use super::book::Book;
 use super::calls::{Buffer, Call, Measures, Record};
-use super::due::Entries;
-use super::lists::List;
+use super::layout::{Entries, List};
 use super::pair::Pair;
 use super::stand::Stand;
 use crate::Outcome;
@@ -25,8 +24,8 @@ const MEASURES: [[usize; 6]; 7] = [
 /// The most shelves of the same measures on which calls are made.
 const MOST: usize = 2_500;
 
-/// What tells two shelves apart: the record's mode, next and flags, array, log, what the list says, the book's blocks.
-type Key = ([usize; 2], [u8; 19], Vec<u8>, Vec<u8>, Entries, Vec<u8>);
+/// What tells two shelves apart: the record's mode, next and flags, array, log, list, the book's blocks.
+type Key = ([usize; 2], [u8; 19], Vec<u8>, Vec<u8>, Vec<u8>, Vec<u8>);
 
 /// The calls that are made: each member fails; each block alone, each stripe and all blocks are written and read.
 fn calls(m: Measures) -> Vec<Call> {
@@ -72,16 +71,46 @@ fn spoil(pair: &mut Pair) {
 /// The key of a shelf beside its book.
 fn key(pair: &Pair) -> Key {
     let Record { measures: m, mode, next, failed, .. } = pair.shelf.record;
-    let entries = List::of(m, &pair.shelf.list.bytes).entries();
+    let [array, log, list] = [&pair.shelf.array, &pair.shelf.log, &pair.shelf.list].map(|buffer| buffer.bytes.clone());
     let blocks = (0..m.d * m.s).map(|address| pair.book.block(address)[0]).collect();
-    ([mode, next], failed, pair.shelf.array.bytes.clone(), pair.shelf.log.bytes.clone(), entries, blocks)
+    ([mode, next], failed, array, log, list, blocks)
 }
 
-/// Walks the shelves of these measures; hands back how many were reached.
-fn walk([d, s, b, l, h, e]: [usize; 6], stand: &mut Stand) -> Result<usize, String> {
+/// The list in bytes for what was listed so far, and how often calls led to what another one had led to.
+#[derive(Default)]
+struct Lists {
+    bytes: HashMap<Entries, Vec<u8>>,
+    again: usize,
+}
+
+impl Lists {
+    /// Takes in the list that a call altered. Fails if it says what another one said, and has other bytes.
+    fn take(&mut self, before: &Pair, after: &Pair) -> Result<(), String> {
+        let bytes = &after.shelf.list.bytes;
+        let entries = List::of(after.shelf.record.measures, bytes).entries();
+        if entries.is_empty() || *bytes == before.shelf.list.bytes {
+            return Ok(());
+        }
+        match self.bytes.get(&entries) {
+            Some(other) if other != bytes => Err(format!("{entries:?} are listed in two ways: {}", after.shelf)),
+            Some(_) => {
+                self.again += 1;
+                Ok(())
+            }
+            None => {
+                self.bytes.insert(entries, bytes.clone());
+                Ok(())
+            }
+        }
+    }
+}
+
+/// Walks the shelves of these measures; hands back how many were reached, and how often the same was listed again.
+fn walk([d, s, b, l, h, e]: [usize; 6], stand: &mut Stand) -> Result<[usize; 2], String> {
     let m = Measures { d, s, b, l, h, e };
     let fresh = Pair::fresh(m, 99, stand)?;
     let mut reached = HashSet::from([key(&fresh)]);
+    let mut lists = Lists::default();
     let mut waiting = VecDeque::from([fresh]);
     while let Some(pair) = waiting.pop_front() {
         for call in calls(m) {
@@ -91,23 +120,31 @@ fn walk([d, s, b, l, h, e]: [usize; 6], stand: &mut Stand) -> Result<usize, Stri
                 continue;
             }
             next.holds()?;
+            lists.take(&pair, &next)?;
             spoil(&mut next);
             if reached.len() < MOST && reached.insert(key(&next)) {
                 waiting.push_back(next);
             }
         }
     }
-    Ok(reached.len())
+    Ok([reached.len(), lists.again])
 }
 
 /// Makes the walks.
 pub fn group(_seed: u64) -> Outcome {
     let stand = &mut Stand::default();
-    let reached = MEASURES.into_iter().map(|measures| walk(measures, stand)).collect::<Result<Vec<usize>, String>>()?;
+    let (mut reached, mut again) = (0, usize::MAX);
+    for measures in MEASURES {
+        let [shelves, lists] = walk(measures, stand)?;
+        (reached, again) = (reached + shelves, again.min(lists));
+    }
     let least = stand.seen.complete(20)?;
+    if again < 20 {
+        return Err(format!("the same was listed in {again} more ways, not 20"));
+    }
     Ok(format!(
-        "{} calls, every one on each of {} shelves near fresh ones; each way of their work {least} times at least",
-        stand.calls,
-        reached.into_iter().sum::<usize>()
+        "{} calls, every one on each of {reached} shelves near fresh ones; each way of their work {least} times at \
+         least; the same was listed {again} times more at least, in the same bytes",
+        stand.calls
     ))
 }

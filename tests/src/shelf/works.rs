@@ -3,9 +3,9 @@
 use std::ops::Range;
 
 use super::calls::{Call, Measures, Record, Shelf};
-use super::due::{Due, Entries, ListDue};
+use super::due::Due;
 use super::events::{Event, Events};
-use super::lists::List;
+use super::layout::{Entries, List};
 use super::model::NONE;
 use crate::model::{made, made_all, recovered};
 
@@ -29,7 +29,7 @@ pub fn outcome(call: Call, shelf: &Shelf, code: usize) -> (Due, Events) {
             let mut work = Work::of(call, shelf);
             work.done(call, shelf, &mut due);
             events = work.events;
-            work.leave(call, shelf, &mut due);
+            work.leave(shelf, &mut due);
         }
     }
     (due, events)
@@ -40,7 +40,7 @@ fn format(shelf: &Shelf, due: &mut Due) {
     due.record = Record { mode: 0, next: 0, listed: 0, failed: [0; 19], ..shelf.record };
     due.array = Some(vec![0; shelf.array.bytes.len()]);
     due.log = Some(vec![0; shelf.log.bytes.len()]);
-    due.list = ListDue::Bytes(NONE.to_le_bytes().repeat(shelf.list.bytes.len() / 4));
+    due.list = Some(NONE.to_le_bytes().repeat(shelf.list.bytes.len() / 4));
 }
 
 /// The record after a member failed. If it is the log, mode 1 becomes 2 when blocks are listed, else 0.
@@ -137,14 +137,14 @@ impl Sight<'_> {
     }
 }
 
-/// A shelf in work: the record, array and log as they are so far, and what the list says so far.
+/// A shelf in work: the record, array and log as they are so far, and what the list says so far. The record's count of
+/// listed blocks is that before the work.
 struct Work {
     m: Measures,
     record: Record,
     array: Vec<u8>,
     log: Vec<u8>,
     entries: Entries,
-    before: Entries,
     events: Events,
 }
 
@@ -164,7 +164,7 @@ impl Work {
             _ => List::of(m, &shelf.list.bytes).entries(),
         };
         let (array, log) = (shelf.array.bytes.clone(), shelf.log.bytes.clone());
-        Work { m, record: shelf.record, array, log, before: entries.clone(), entries, events: Events::default() }
+        Work { m, record: shelf.record, array, log, entries, events: Events::default() }
     }
 
     /// Does the work of a call; what resync tells goes to what is due.
@@ -178,15 +178,12 @@ impl Work {
         }
     }
 
-    /// Puts what the work left to what is due. The list stays where it says of all blocks what it said; full resync
-    /// may write it anew in any case.
-    fn leave(self, call: Call, shelf: &Shelf, due: &mut Due) {
+    /// Puts what the work left to what is due.
+    fn leave(self, shelf: &Shelf, due: &mut Due) {
         due.record = Record { listed: self.entries.len(), ..self.record };
         due.array = (self.array != shelf.array.bytes).then_some(self.array);
         due.log = (self.log != shelf.log.bytes).then_some(self.log);
-        if call == Call::FullResync || self.entries != self.before {
-            due.list = ListDue::Says(self.entries);
-        }
+        due.list = Some(List::one(self.m, &self.entries).bytes());
     }
 
     /// The addresses of a stripe.
@@ -261,7 +258,7 @@ impl Work {
     fn note(&mut self, reconstruct: bool, places: usize, lacks_records: bool, lacks_places: bool) {
         let mode = self.record.mode;
         let logs = mode == 1 && !lacks_records && !lacks_places;
-        let again = self.entries.is_empty() && !self.before.is_empty();
+        let again = self.entries.is_empty() && self.record.listed > 0;
         self.events.add(Event::WriteNormal, mode == 0);
         self.events.add(Event::WriteTransitional, mode == 2);
         self.events.add(Event::WriteLacksRecords, mode == 1 && lacks_records && !lacks_places);

@@ -20,8 +20,8 @@ use Rattle.shelf.specs.Members.{InRange, addressOf}
 use Rattle.shelf.specs.State.{State, isSome, listed, marksIn}
 use Rattle.shelf.specs.Calls.{reconstructs, preRead, recordsFor, placesFor, nextLeft, Appended, append, overwritten, oriAppended, curAppended, logged}
 use Rattle.shelf.specs.Words.{words}
-use Rattle.shelf.specs.HashList.{noneWord, isRecord, Entry, entry, entries, said, lookup, valid}
-use Rattle.shelf.specs.Rewriting.{encode, dropStripe, merged}
+use Rattle.shelf.specs.HashList.{noneWord, isRecord, Entry, entry, entries, encode, said, lookup, valid}
+use Rattle.shelf.specs.Rewriting.{dropStripe, merged}
 use Rattle.shelf.specs.Lent.{lent, recordAt, listedBy, arrayBlock, flagsOf, recordOf, roleBlock}
 use Rattle.shelf.specs.Showing.{HoldsArray, HoldsLog, HoldsList, Shows}
 use Rattle.shelf.specs.Records.{withLogged}
@@ -35,7 +35,7 @@ use Rattle.shelf.proofs.general.TestLaws.{cases, and-left, and-right, o
 use Rattle.shelf.proofs.agreement.AppendLaws.{one-on, one-off, append-next}
 use Rattle.shelf.proofs.agreement.LoggedLaws.{count-marked, listed-after, was-listed, curAppended-next}
 use Rattle.shelf.proofs.hashlist.ListMarks.{some-record, listed-found, kept-marks}
-use Rattle.shelf.proofs.hashlist.ListMeaning.{passing, length-encode, said-ori, said-cur, said-whole}
+use Rattle.shelf.proofs.hashlist.ListMeaning.{length-encode, said-ori, said-cur, said-whole}
 use Rattle.shelf.proofs.hashlist.GatherLaws.{length-merged}
 use Rattle.shelf.proofs.hashlist.WordLaws.{length-bytes}
 use Rattle.shelf.proofs.lent.LayoutLaws.{role-data, role-p, role-q, by-role}
@@ -43,6 +43,7 @@ use Rattle.shelf.proofs.numbers.InputLaws.{measures-of}
 use Rattle.shelf.proofs.calls.CopyLaws.{copied-ext, places-within, stored-length, stored-here, stored-there, stored-parity}
 use Rattle.shelf.proofs.calls.MadeLaws.{says-marks}
 use Rattle.shelf.proofs.calls.PlanLaws.{noted-on, noted-ext, noted-new, noted-some, noted-record, noted-appended, record-word, preRead-ext, preRead-count, recordsFor-ext}
+use Rattle.shelf.proofs.calls.ServedLaws.{addresses-small}
 use Rattle.shelf.proofs.calls.RelistLaws.{relisted-valid, relisted-here, relisted-there}
 
 -- ---- the plan of a stripe that can be logged: its row, and what the code's functions ask
@@ -398,19 +399,19 @@ module _ (r : Shelf) (a n l l' from : List ℕ) (t k : ℕ) (p : Share) (q : Pla
   list-valid : valid (words l') G next' k ≡ true
   list-valid =
       relisted-valid (words l) G (r .next) (r .listed) (slots r a n l from t p q L) (disks r a n l from t p q L) (range r a n l from t p q L .e-most)
-      (passed r a n l from t p q L) t next' k (B .slice) l' (numbered (q .ori)) (numbered (q .cur)) (L .stripe) (omega arith) (row-room r a n l from t p q L) (B .packed)
+      (omega (arith, addresses-small G (range r a n l from t p q L))) (passed r a n l from t p q L) t next' k (B .slice) l' (numbered (q .ori)) (numbered (q .cur)) (L .stripe) (omega arith) (row-room r a n l from t p q L) (B .packed)
       (ori-record r a n l from t p q L) (cur-record r a n l from t p q L) (whole-then r a n l from t p q L) (B .rewritten)
 
   said-here : (i : ℕ) → i < G .d → said (words l') G (t * G .d + i) ≡ entry (t * G .d + i) (numbered (q .ori) i) (numbered (q .cur) i)
   said-here =
       relisted-here (words l) G (r .next) (r .listed) (slots r a n l from t p q L) (disks r a n l from t p q L) (range r a n l from t p q L .e-most)
-      (passed r a n l from t p q L) t next' k (B .slice) l' (numbered (q .ori)) (numbered (q .cur)) (L .stripe) (omega arith) (row-room r a n l from t p q L) (B .packed)
+      (omega (arith, addresses-small G (range r a n l from t p q L))) (passed r a n l from t p q L) t next' k (B .slice) l' (numbered (q .ori)) (numbered (q .cur)) (L .stripe) (omega arith) (row-room r a n l from t p q L) (B .packed)
       (ori-record r a n l from t p q L) (cur-record r a n l from t p q L) (whole-then r a n l from t p q L) (B .rewritten)
 
   said-there : (x i : ℕ) → x ≢ t → i < G .d → said (words l') G (x * G .d + i) ≡ said (words l) G (x * G .d + i)
   said-there =
       relisted-there (words l) G (r .next) (r .listed) (slots r a n l from t p q L) (disks r a n l from t p q L) (range r a n l from t p q L .e-most)
-      (passed r a n l from t p q L) t next' k (B .slice) l' (numbered (q .ori)) (numbered (q .cur)) (L .stripe) (omega arith) (row-room r a n l from t p q L) (B .packed)
+      (omega (arith, addresses-small G (range r a n l from t p q L))) (passed r a n l from t p q L) t next' k (B .slice) l' (numbered (q .ori)) (numbered (q .cur)) (L .stripe) (omega arith) (row-room r a n l from t p q L) (B .packed)
       (ori-record r a n l from t p q L) (cur-record r a n l from t p q L) (whole-then r a n l from t p q L) (B .rewritten)
 
   ori-then : (i : ℕ) → i < G .d → recordAt (numbered (q .ori) i) ≡ oriAppended G s t w .noted i

@@ -1,7 +1,7 @@
 -- Parity made afresh in the array and entries dropped from the list: what is left is what `made` and `remade` say. Laws for resync and full resync;
 -- write's stripes that are not logged, and rebuild, go by the same.
 -- Assumes nothing.
-use mathlib.Core.Bool.{Bool, true, false, _||_}
+use mathlib.Core.Bool.{Bool, _||_}
 use mathlib.Core.List.{List}
 use mathlib.Core.Logic.{_≢_}
 use mathlib.Core.Option.{Option, none}
@@ -17,25 +17,25 @@ use Rattle.stripe.specs.Places.{place, columnAt, byColumn, parityMade, parityMa
 use Rattle.stripe.proofs.Laws.{made-length, made-others, made-in-p, made-in-q, all-length, all-data, all-obey, parityP-ext, parityQ-ext, place-lt, place-inj, place-other, fits, length-block, getD-block, length-gen, getD-gen}
 use Rattle.shelf.specs.Counting.{choose, setAt}
 use Rattle.shelf.specs.Members.{InRange, addressOf, column, blockP, blockQ}
-use Rattle.shelf.specs.State.{State, isSome, listed, stale, marksIn, freshState}
+use Rattle.shelf.specs.State.{State, isSome, listed, marksIn, freshState}
 use Rattle.shelf.specs.Calls.{nextLeft, modeLeft, settled, dropped, made, remade, overwritten}
 use Rattle.shelf.specs.Words.{words}
-use Rattle.shelf.specs.HashList.{noneWord, Entry, entry, entries, said, valid, listedIn, staleIn}
+use Rattle.shelf.specs.HashList.{noneWord, Entry, entry, entries, said, valid}
 use Rattle.shelf.specs.Rewriting.{Rewritten, dropStripe}
 pub use Rattle.shelf.specs.Showing.{HoldsArray, HoldsList}
-use Rattle.shelf.specs.Lent.{Lent, lent, recordAt, oriBy, curBy, arrayBlock, arrayLength, listedBy, listLength, flagsOf, recordOf, roleBlock, logOf, formatted, Leaves}
+use Rattle.shelf.specs.Lent.{lent, recordAt, oriBy, curBy, arrayBlock, arrayLength, listedBy, listLength, flagsOf, recordOf, roleBlock, logOf, formatted, Leaves}
 use Rattle.shelf.specs.Records.{withListed}
 use Rattle.shelf.specs.declared.record.Geometry.{Geometry}
 use Rattle.shelf.specs.declared.record.Shelf.{Shelf}
 use Rattle.shelf.proofs.general.AddressLaws.{stripe-of}
-use Rattle.shelf.proofs.general.CountLaws.{any-ext, any-none, setAt-here, setAt-other, setRow-here, setRow-other}
+use Rattle.shelf.proofs.general.CountLaws.{setAt-here, setAt-other, setRow-here, setRow-other}
 use Rattle.shelf.proofs.lent.FormatLaws.{none-bytes}
-use Rattle.shelf.proofs.lent.FreshLaws.{fresh-leaves}
+use Rattle.shelf.proofs.lent.FreshLaws.{full-bytes, fresh-says}
+use Rattle.shelf.proofs.lent.ListLayout.{list-laid}
 use Rattle.shelf.proofs.lent.LayoutLaws.{array-is, role-data, role-p, role-q, by-role}
-use Rattle.shelf.proofs.agreement.ListedLaws.{unlisted, marksIn-ext, no-marks}
-use Rattle.shelf.proofs.hashlist.ListMarks.{listed-found, marks-listed}
+use Rattle.shelf.proofs.agreement.ListedLaws.{marksIn-ext, no-marks}
+use Rattle.shelf.proofs.hashlist.ListMarks.{marks-listed}
 use Rattle.shelf.proofs.hashlist.ListMeaning.{length-encode, dropped-valid, dropped-left, dropped-gone, dropped-kept}
-use Rattle.shelf.proofs.general.TestLaws.{cases}
 use Rattle.shelf.proofs.hashlist.WordLaws.{length-bytes}
 
 -- ---- a block by its bytes
@@ -59,27 +59,9 @@ says-marks g s k l Y Z =
     ∙ marks-listed g l (s .log .next) k Y (Z .passes)
 
 pub leaves-by : (g : Geometry) (s : State) (r : Shelf) (a n l : List ℕ) → InRange g → r ≡ recordOf g s → HoldsArray g s a → n ≡ logOf g s → HoldsList g s (r .listed) l
-    → Leaves g s (lent r a n l)
-leaves-by g s r a n l Y er A en Z =
-    record {
-      shelf = er;
-      array = array-is g s a (Y .s-least) (A .long) (A .blocks);
-      log = en;
-      length-of = Z .length-of;
-      passes = ap (λ (v : Shelf). valid (words l) g (v .next) (r .listed)) er ∙ Z .passes;
-      ori = Z .ori;
-      cur = Z .cur;
-    }
-
--- and back, for the list
-pub leaves-says : (g : Geometry) (s : State) (h : Lent) → Leaves g s h → HoldsList g s (h .shelf .listed) (h .list)
-leaves-says g s h L =
-    record {
-      length-of = L .length-of;
-      passes = ap (λ (v : Shelf). valid (words (h .list)) g (v .next) (h .shelf .listed)) (sym (L .shelf)) ∙ L .passes;
-      ori = L .ori;
-      cur = L .cur;
-    }
+    → ((i : ℕ) → getD l i 0 < 256) → Leaves g s (lent r a n l)
+leaves-by g s r a n l Y er A en Z bytes =
+    record { shelf = er; array = array-is g s a (Y .s-least) (A .long) (A .blocks); log = en; list = list-laid g s (r .listed) l Y Z bytes }
 
 -- ---- one stripe: the array
 
@@ -247,59 +229,6 @@ module _ (g : Geometry) (s : State) (t : ℕ) (row : ℕ → List ℕ) (Y : InRa
         cur = dropped-cur;
       }
 
--- A stripe that is not stale has no entries, and the list is left as it is. (A list that a call does not alter must keep its bytes, so the code may not
--- write it anew then.)
-module _ (g : Geometry) (s : State) (t : ℕ) (row : ℕ → List ℕ) (Y : InRange g) (k : ℕ) (l : List ℕ) (Z : HoldsList g s k l)
-    (clean : (i : ℕ) → i < g .d → listed (s .log) t i ≡ false) (idle : nextLeft k (s .log .next) ≡ s .log .next) where
-  clean-ori : (x i : ℕ) → i < g .d → s .log .ori x i ≡ setAt t (λ _. none) (s .log .ori) x i
-  clean-ori x i hi =
-      elim (ℕ-discrete x t) [
-        | yes e ↦ ap (λ (y : ℕ). s .log .ori y i) e ∙ unlisted (s .log) t i (clean i hi) .0 ∙ sym (setRow-here t (λ _. none) (s .log .ori) x i e)
-        | no ne ↦ sym (setRow-other t (λ _. none) (s .log .ori) x i ne)
-      ]
-
-  clean-cur : (x i : ℕ) → i < g .d → s .log .cur x i ≡ setAt t (λ _. none) (s .log .cur) x i
-  clean-cur x i hi =
-      elim (ℕ-discrete x t) [
-        | yes e ↦ ap (λ (y : ℕ). s .log .cur y i) e ∙ unlisted (s .log) t i (clean i hi) .1 ∙ sym (setRow-here t (λ _. none) (s .log .cur) x i e)
-        | no ne ↦ sym (setRow-other t (λ _. none) (s .log .cur) x i ne)
-      ]
-
-  clean-marks : marksIn g (listed (dropped (s .log) t)) ≡ k
-  clean-marks =
-      marksIn-ext g (listed (dropped (s .log) t)) (listed (s .log))
-      (λ x i hx hi. ap₂ (λ (o c : Option ℕ). isSome o || isSome c) (sym (clean-ori x i hi)) (sym (clean-cur x i hi))) ∙ says-marks g s k l Y Z
-
-  pub clean-says : HoldsList g (made g s t row) k l
-  unfolding made settled
-  clean-says =
-      record {
-        length-of = Z .length-of;
-        passes = ap (λ (m : ℕ). valid (words l) g m k) (ap (λ (m : ℕ). nextLeft m (s .log .next)) clean-marks ∙ idle) ∙ Z .passes;
-        ori = λ x i hx hi. Z .ori x i hx hi ∙ clean-ori x i hi;
-        cur = λ x i hx hi. Z .cur x i hx hi ∙ clean-cur x i hi;
-      }
-
--- a stripe is stale in the list where it is in the state
-pub says-stale : (g : Geometry) (s : State) (k : ℕ) (l : List ℕ) → InRange g → HoldsList g s k l → (x : ℕ) → x < g .s → staleIn (words l) g x ≡ stale g (listed (s .log)) x
-unfolding staleIn
-says-stale g s k l Y Z x hx =
-    any-ext (g .d) (listedIn (words l) g x) (listed (s .log) x)
-    (λ i hi. sym (listed-found g l (s .log .next) k Y (Z .passes) x i) ∙ ap₂ (λ (o c : Option ℕ). isSome o || isSome c) (Z .ori x i hx hi) (Z .cur x i hx hi))
-
--- the stripe's entries dropped where there are some, the list left where there are none: as `drop_stale` does
-pub dropped-says : (g : Geometry) (s : State) (t : ℕ) (row : ℕ → List ℕ) → InRange g → t < g .s → (k₀ k : ℕ) (l₀ l : List ℕ) → k₀ ≤ g .e
-    → nextLeft k₀ (s .log .next) ≡ s .log .next → HoldsList g s k₀ l₀
-    → (staleIn (words l₀) g t ≡ true → Rewritten g (dropStripe (g .d) t (entries (words l₀) g)) l k) → (staleIn (words l₀) g t ≡ false → (l ≡ l₀) × (k ≡ k₀))
-    → HoldsList g (made g s t row) k l
-dropped-says g s t row Y ht k₀ k l₀ l most idle Z drops stays =
-    cases (staleIn (words l₀) g t)
-    (λ y. made-says g s t row Y k₀ k l₀ l most Z (drops y))
-    (λ y.
-    subst (λ (m : ℕ). HoldsList g (made g s t row) m l) (sym (stays y .1))
-    (subst (λ (b : List ℕ). HoldsList g (made g s t row) k₀ b) (sym (stays y .0))
-    (clean-says g s t row Y k₀ l₀ Z (any-none (g .d) (listed (s .log) t) (sym (says-stale g s k₀ l₀ Y Z t ht) ∙ y)) idle)))
-
 -- the record with k entries left
 pub made-record : (g : Geometry) (s : State) (t : ℕ) (row : ℕ → List ℕ) (r : Shelf) (k : ℕ) (l : List ℕ) → InRange g → r ≡ recordOf g s → HoldsList g (made g s t row) k l
     → withListed r k ≡ recordOf g (made g s t row)
@@ -315,11 +244,11 @@ made-log g s t row n e = e
 
 -- Stripe t with the data blocks of row made, all of it: from what is lent as the state s, but for the array a, which has the row already.
 pub made-leaves : (g : Geometry) (s : State) (t : ℕ) (row : ℕ → List ℕ) (r : Shelf) (k : ℕ) (a n l : List ℕ) → InRange g → t < g .s → r ≡ recordOf g s → n ≡ logOf g s
-    → Rowed g s t row a → HoldsList g (made g s t row) k l
+    → Rowed g s t row a → HoldsList g (made g s t row) k l → ((i : ℕ) → getD l i 0 < 256)
     → Leaves g (made g s t row) (lent (withListed r k) (parityMade (place (g .d) (g .s) t) (g .d) (g .b) a) n l)
-made-leaves g s t row r k a n l Y ht er en R Z =
+made-leaves g s t row r k a n l Y ht er en R Z bytes =
     leaves-by g (made g s t row) (withListed r k) (parityMade (place (g .d) (g .s) t) (g .d) (g .b) a) n l Y (made-record g s t row r k l Y er Z) (made-reads g s t row a ht R)
-    (made-log g s t row n en) Z
+    (made-log g s t row n en) Z bytes
 
 -- ---- all stripes
 
@@ -402,28 +331,11 @@ empty-bytes g =
     let q : 4 * g .h + 16 * g .e ≡ 4 * (g .h + 4 * g .e) = omega arith in
     ap (λ (k : ℕ). replicate k 255) q ∙ sym (none-bytes (g .h + 4 * g .e))
 
-fresh-passes : (g : Geometry) → InRange g → valid (words (formatted g .list)) g 0 0 ≡ true
-unfolding formatted
-fresh-passes g Y = fresh-leaves g Y .passes
-
-fresh-ori : (g : Geometry) → InRange g → (x i : ℕ) → x < g .s → i < g .d → oriBy g (formatted g .list) x i ≡ none
-unfolding freshState
-fresh-ori g Y x i hx hi = fresh-leaves g Y .ori x i hx hi
-
-fresh-cur : (g : Geometry) → InRange g → (x i : ℕ) → x < g .s → i < g .d → curBy g (formatted g .list) x i ≡ none
-unfolding freshState
-fresh-cur g Y x i hx hi = fresh-leaves g Y .cur x i hx hi
-
 pub remade-says : (g : Geometry) (s : State) (disk : ℕ → ℕ → List ℕ) (f : ℕ → Bool) → InRange g → HoldsList g (remade g s disk f) 0 (replicate (listLength g) 255)
-unfolding remade
+unfolding remade freshState
 remade-says g s disk f Y =
-    let same = empty-bytes g in
-    record {
-      length-of = ap length same ∙ fresh-leaves g Y .length-of;
-      passes = ap (λ (w : List ℕ). valid (words w) g 0 0) same ∙ fresh-passes g Y;
-      ori = λ x i hx hi. ap (λ (w : List ℕ). oriBy g w x i) same ∙ fresh-ori g Y x i hx hi;
-      cur = λ x i hx hi. ap (λ (w : List ℕ). curBy g w x i) same ∙ fresh-cur g Y x i hx hi;
-    }
+    subst (λ (l : List ℕ). HoldsList g (remade g s disk f) 0 l) (sym (empty-bytes g))
+    (let F = fresh-says g Y in record { length-of = F .length-of; passes = F .passes; ori = F .ori; cur = F .cur })
 
 -- the record of an emptied shelf in mode 0
 pub remade-record : (g : Geometry) (s : State) (disk : ℕ → ℕ → List ℕ) (f : ℕ → Bool)
@@ -441,4 +353,4 @@ pub remade-leaves : (g : Geometry) (s : State) (disk : ℕ → ℕ → List ℕ)
     (lent (record { geometry = g; mode = 0; next = 0; listed = 0; failed = flagsOf f }) (parityMadeAll (g .s) (place (g .d) (g .s)) (g .d) (g .b) a) n (replicate (listLength g) 255))
 remade-leaves g s disk f a n Y F en =
     leaves-by g (remade g s disk f) (record { geometry = g; mode = 0; next = 0; listed = 0; failed = flagsOf f }) (parityMadeAll (g .s) (place (g .d) (g .s)) (g .d) (g .b) a) n
-    (replicate (listLength g) 255) Y (remade-record g s disk f) (remade-reads g disk a F s f) (remade-log g s disk f n en) (remade-says g s disk f Y)
+    (replicate (listLength g) 255) Y (remade-record g s disk f) (remade-reads g disk a F s f) (remade-log g s disk f n en) (remade-says g s disk f Y) (full-bytes (listLength g))

@@ -2,39 +2,38 @@
 -- Assumes nothing.
 use mathlib.Core.Bool.{Bool, true, false, not, _&&_, _||_}
 use mathlib.Core.List.{List}
-use mathlib.Core.Option.{none}
-use mathlib.Core.Path.{_≡_, refl, sym, ap, ap₂, _∙_, subst}
+use mathlib.Core.Path.{_≡_, refl, sym, ap, _∙_, subst}
 use Prim.Native.Nat.{ℕ, _+_, _-_, _≤_, _<_}
-use native.Mathlib.Decide.{ℕ-discrete, decLt}
+use native.Mathlib.Decide.{ℕ-discrete}
 use native.Mathlib.Omega.{arith}
 use lib.Dec.{ltb}
 use lib.ListN.{length, getD, replicate, set, length-set}
 use lib.Seq.{getD-set-same, getD-set-other}
-use borrow.Author.Tests.{lt-ltb, le-ltb, eq-eqb, ltb-true, ltb-false}
+use borrow.Author.Tests.{ltb-true, ltb-false}
 use Rattle.shelf.specs.Counting.{choose, count, any}
 use Rattle.shelf.specs.Members.{memberAt}
-use Rattle.shelf.specs.State.{State, listed, stale, marksIn}
+use Rattle.shelf.specs.State.{State, listed, stale}
 use Rattle.shelf.specs.Status.{rebuild, arrayFailed, arraySound, withheld, dataWithheld, row, codeOf}
 use Rattle.shelf.specs.Calls.{blockAt, remade, parityFailed, arrayCleared, rebuilt, work}
 use Rattle.shelf.specs.Words.{words}
 use Rattle.shelf.specs.HashList.{staleIn, valid}
-use Rattle.shelf.specs.Lent.{Lent, lent, flagAt, flagsOf, stateOf, oriBy, curBy, listedBy, triesList, numberOf, changesList, altersList, Leaves, Answered}
+use Rattle.shelf.specs.Lent.{Lent, lent, flagAt, flagsOf, stateOf, listedBy, triesList, numberOf, Leaves, Answered}
 use Rattle.shelf.specs.Records.{withMode, withListed, withCleared}
 use Rattle.shelf.specs.Reading.{ListReady}
-use Rattle.shelf.specs.Rebuilding.{Rebuildable, dataFailedAt, withheldAt, rebuiltTo, rebuiltRecord, emptiedList, rebuiltList}
+use Rattle.shelf.specs.Rebuilding.{Rebuildable, dataFailedAt, withheldAt, rebuiltTo, rebuiltRecord, rebuiltList}
 use Rattle.shelf.specs.declared.record.Geometry.{Geometry}
 use Rattle.shelf.specs.declared.record.Shelf.{Shelf}
 use Rattle.shelf.proofs.general.TestLaws.{cases, clash, choose-true, choose-false, and-false, and-left, and-right, same-bool}
 use Rattle.shelf.proofs.general.WalkLaws.{any-turn}
-use Rattle.shelf.proofs.general.CountLaws.{any-some, any-found, any-none, none-any, count-more}
+use Rattle.shelf.proofs.general.CountLaws.{any-some, any-found, none-any, count-more}
 use Rattle.shelf.proofs.numbers.TableRows.{row-hit, row-pass}
 use Rattle.shelf.proofs.numbers.InputLaws.{Passed, fine-record, inputs-pass}
 use Rattle.shelf.proofs.hashlist.ListMarks.{marks-listed}
-use Rattle.shelf.proofs.agreement.ListedLaws.{marks-none, none-marks, unlisted}
+use Rattle.shelf.proofs.agreement.ListedLaws.{marks-none}
+use Rattle.shelf.proofs.lent.FreshLaws.{full-bytes}
 use Rattle.shelf.proofs.lent.LayoutLaws.{flags-are, log-is}
 use Rattle.shelf.proofs.lent.LeavesLaws.{marks-here}
 use Rattle.shelf.proofs.calls.MadeLaws.{HoldsList, leaves-by, remade-says, remade-record, remade-log}
-use Rattle.shelf.proofs.calls.ResyncLaws.{drop-alters}
 use Rattle.shelf.proofs.calls.ServedLaws.{held-stale, list-ready}
 use Rattle.shelf.proofs.calls.RefillLaws.{rebuilt-reads}
 
@@ -149,33 +148,20 @@ cleared-all r i fs e C =
 
 -- ---- the record and the list after it
 
-pub emptied-some : (n : ℕ) (l l' : List ℕ) → 0 < n → l' ≡ replicate (length l) 255 → l' ≡ emptiedList n l
-emptied-some n l l' h e = e ∙ sym (choose-true (ltb 0 n) (replicate (length l) 255) l (lt-ltb 0 n h))
-
-pub emptied-none : (n : ℕ) (l : List ℕ) → n ≤ 0 → l ≡ emptiedList n l
-emptied-none n l h = sym (choose-false (ltb 0 n) (replicate (length l) 255) l (le-ltb 0 n h))
-
-pub settled-sound : (r : Shelf) (parity : Bool) (l : List ℕ) (c : Shelf) → parity ≡ false → c ≡ withCleared r → (c ≡ rebuiltRecord r parity) × (l ≡ rebuiltList r parity l)
+pub settled-sound : (r : Shelf) (parity : Bool) (l : List ℕ) (c : Shelf) → parity ≡ false → c ≡ withCleared r → (c ≡ rebuiltRecord r parity) × (l ≡ rebuiltList parity l)
 settled-sound r parity l c t e = (
   e ∙ sym (choose-false parity (withListed (withMode (withCleared r) 0) 0) (withCleared r) t),
-  sym (choose-false parity (emptiedList (r .listed) l) l t),
+  sym (choose-false parity (replicate (length l) 255) l t),
 )
 
 pub settled-parity : (r : Shelf) (parity : Bool) (l l' : List ℕ) (c m o : Shelf) → parity ≡ true → c ≡ withCleared r → m ≡ withMode c 0 → o ≡ withListed m 0
-    → l' ≡ emptiedList (r .listed) l → (o ≡ rebuiltRecord r parity) × (l' ≡ rebuiltList r parity l)
+    → l' ≡ replicate (length l) 255 → (o ≡ rebuiltRecord r parity) × (l' ≡ rebuiltList parity l)
 settled-parity r parity l l' c m o t ec em eo el = (
   eo ∙ ap (λ (v : Shelf). withListed v 0) (em ∙ ap (λ (v : Shelf). withMode v 0) ec) ∙ sym (choose-true parity (withListed (withMode (withCleared r) 0) 0) (withCleared r) t),
-  el ∙ sym (choose-true parity (emptiedList (r .listed) l) l t),
+  el ∙ sym (choose-true parity (replicate (length l) 255) l t),
 )
 
 -- ---- the call
-
--- marks in all: a stripe is stale
-some-stale : (g : Geometry) (m : ℕ → ℕ → Bool) → 0 < marksIn g m → (x : ℕ) × (x < g .s) × (stale g m x ≡ true)
-some-stale g m h =
-    cases (any (g .s) (stale g m))
-    (λ t. any-found (g .s) (stale g m) t)
-    (λ t. let z : marksIn g m ≡ 0 = none-marks g m (λ x i hx hi. any-none (g .d) (m x) (any-none (g .s) (stale g m) t x hx) i hi) in absurd (omega (arith, z)))
 
 module _ (r : Shelf) (a n l : List ℕ) where
   abbrev g : Geometry
@@ -211,62 +197,29 @@ module _ (r : Shelf) (a n l : List ℕ) where
       record { ready = record { listing = list-ready r (length a) (length n) l P; array = P .array; log = P .log }; two = two-failed P }
 
   -- parity had not failed: the list stays
-  sound-leaves : (e : 0 ≡ numberOf r (length a) (length n) l rebuild) → Leaves g refilled (lent (withCleared r) (rebuiltTo (lent r a n l) false (g .s)) n l)
+  sound-leaves : (e : 0 ≡ numberOf r (length a) (length n) l rebuild) → ((i : ℕ) → getD l i 0 < 256)
+      → Leaves g refilled (lent (withCleared r) (rebuiltTo (lent r a n l) false (g .s)) n l)
   unfolding stateOf
-  sound-leaves e =
+  sound-leaves e bytes =
       let P = passed e in
       leaves-by g refilled (withCleared r) (rebuiltTo (lent r a n l) false (g .s)) n l (P .range)
       (λ i. record { geometry = g; mode = r .mode; next = r .next; listed = sym (marks-here r a n l P) i; failed = flagsOf (arrayCleared g (flagAt r)) })
       (rebuilt-reads r a n l (two-failed P) (rebuild-asks e .ready) false refilled (λ x i. refl) (λ _ x. refl) (λ _ x. refl) (λ z. clash z refl) (λ z. clash z refl))
       (log-is g refilled n (P .log) (λ k _. refl))
-      (record { length-of = P .list; passes = P .valid; ori = λ x i hx hi. refl; cur = λ x i hx hi. refl })
+      (record { length-of = P .list; passes = P .valid; ori = λ x i hx hi. refl; cur = λ x i hx hi. refl }) bytes
 
-  -- parity had failed: the list says nothing any more
-  parity-leaves : (e : 0 ≡ numberOf r (length a) (length n) l rebuild) (l' : List ℕ) → HoldsList g remadeAll 0 l'
-      → Leaves g remadeAll (lent (withListed (withMode (withCleared r) 0) 0) (rebuiltTo (lent r a n l) true (g .s)) n l')
+  -- parity had failed: every word of the list is none
+  parity-leaves : (e : 0 ≡ numberOf r (length a) (length n) l rebuild)
+      → Leaves g remadeAll (lent (withListed (withMode (withCleared r) 0) 0) (rebuiltTo (lent r a n l) true (g .s)) n (replicate (length l) 255))
   unfolding stateOf choose
-  parity-leaves e l' Z =
+  parity-leaves e =
       let P = passed e in
-      leaves-by g remadeAll (withListed (withMode (withCleared r) 0) 0) (rebuiltTo (lent r a n l) true (g .s)) n l' (P .range)
+      leaves-by g remadeAll (withListed (withMode (withCleared r) 0) 0) (rebuiltTo (lent r a n l) true (g .s)) n (replicate (length l) 255) (P .range)
       (remade-record g st (blockAt g st) (arrayCleared g (st .failed)))
       (unfold remade in rebuilt-reads r a n l (two-failed P) (rebuild-asks e .ready) true remadeAll (λ x i. refl) (λ z. clash refl z) (λ z. clash refl z) (λ _ x. refl) (λ _ x. refl))
-      (remade-log g st (blockAt g st) (arrayCleared g (st .failed)) n (log-is g st n (P .log) (λ k _. refl))) Z
-
-  -- the list emptied, or left as it is where nothing is listed
-  emptied-says : (e : 0 ≡ numberOf r (length a) (length n) l rebuild) → HoldsList g remadeAll 0 (emptiedList (r .listed) l)
-  emptied-says e =
-      let P = passed e in
-      elim (decLt 0 (r .listed)) [
-        | yes h ↦ subst (λ (z : List ℕ). HoldsList g remadeAll 0 z) (ap (λ (k : ℕ). replicate k 255) (sym (P .list)) ∙ emptied-some (r .listed) l (replicate (length l) 255) h refl)
-            (remade-says g st (blockAt g st) (arrayCleared g (st .failed)) (P .range))
-        | no h ↦ subst (λ (z : List ℕ). HoldsList g remadeAll 0 z) (emptied-none (r .listed) l (omega arith)) (unlisted-says P (omega arith))
-      ]
-    where
-      nothing : Passed r (length a) (length n) l → r .listed ≡ 0 → (x i : ℕ) → x < g .s → i < g .d → (oriBy g l x i ≡ none) × (curBy g l x i ≡ none)
-      nothing P z x i hx hi = unfold stateOf in unlisted (st .log) x i (marks-none g (listed (st .log)) (marks-here r a n l P ∙ z) x i hx hi)
-
-      next-zero : Passed r (length a) (length n) l → r .listed ≡ 0 → r .next ≡ 0
-      next-zero P z =
-          let f = fine-record r (P .fine) .idle in
-          let low = ltb-false 0 (r .next) (sym (ap (λ (b : Bool). b && ltb 0 (r .next)) (eq-eqb (r .listed) 0 z)) ∙ f) in omega (arith, low)
-
-      unlisted-says : Passed r (length a) (length n) l → r .listed ≡ 0 → HoldsList g remadeAll 0 l
-      unlisted-says P z =
-          unfold remade in record {
-            length-of = P .list;
-            passes = ap₂ (λ (m k : ℕ). valid (words l) g m k) (sym (next-zero P z)) (sym z) ∙ P .valid;
-            ori = λ x i hx hi. nothing P z x i hx hi .0;
-            cur = λ x i hx hi. nothing P z x i hx hi .1;
-          }
-
-  -- a list with entries is altered where parity had failed
-  parity-alters : Passed r (length a) (length n) l → rebuilt g st ≡ remadeAll → 0 < r .listed → altersList g rebuild st ≡ true
-  unfolding altersList triesList work
-  parity-alters P is h =
-      let m : marksIn g (listed (st .log)) ≡ r .listed = marks-here r a n l P in
-      let found = some-stale g (listed (st .log)) (omega (arith, m)) in
-      ap (λ (s : State). changesList g (st .log) (s .log)) is
-      ∙ (unfold remade in drop-alters g (st .log) (remadeAll .log) (found .0) (found .1) (found .2) (λ i. refl) (λ i. refl))
+      (remade-log g st (blockAt g st) (arrayCleared g (st .failed)) n (log-is g st n (P .log) (λ k _. refl)))
+      (subst (λ (k : ℕ). HoldsList g remadeAll 0 (replicate k 255)) (sym (P .list)) (remade-says g st (blockAt g st) (arrayCleared g (st .failed)) (P .range)))
+      (full-bytes (length l))
 
   rebuilt-sound : parityFailed g (st .failed) ≡ false → refilled ≡ rebuilt g st
   unfolding rebuilt
@@ -276,32 +229,27 @@ module _ (r : Shelf) (a n l : List ℕ) where
   unfolding rebuilt
   rebuilt-parity t = sym (choose-true (parityFailed g (st .failed)) remadeAll refilled t)
 
-  by-parity : 0 ≡ numberOf r (length a) (length n) l rebuild → (parity : Bool) → parityFailed g (st .failed) ≡ parity
-      → Answered (lent r a n l) rebuild 0 (lent (rebuiltRecord r parity) (rebuiltTo (lent r a n l) parity (g .s)) n (rebuiltList r parity l))
+  by-parity : 0 ≡ numberOf r (length a) (length n) l rebuild → ((i : ℕ) → getD l i 0 < 256) → (parity : Bool) → parityFailed g (st .failed) ≡ parity
+      → Answered (lent r a n l) rebuild 0 (lent (rebuiltRecord r parity) (rebuiltTo (lent r a n l) parity (g .s)) n (rebuiltList parity l))
   unfolding work choose
-  by-parity e false t =
+  by-parity e bytes false t =
       record {
         number = e;
-        done = λ _. subst (λ (s : State). Leaves g s (lent (withCleared r) (rebuiltTo (lent r a n l) false (g .s)) n l)) (rebuilt-sound t) (sound-leaves e);
-        unaltered = λ _ _. refl;
+        done = λ _. subst (λ (s : State). Leaves g s (lent (withCleared r) (rebuiltTo (lent r a n l) false (g .s)) n l)) (rebuilt-sound t) (sound-leaves e bytes);
         refused = λ z. absurd (z refl);
       }
-  by-parity e true t =
+  by-parity e bytes true t =
       record {
         number = e;
         done = λ _.
-            subst (λ (s : State). Leaves g s (lent (withListed (withMode (withCleared r) 0) 0) (rebuiltTo (lent r a n l) true (g .s)) n (emptiedList (r .listed) l))) (rebuilt-parity t)
-            (parity-leaves e (emptiedList (r .listed) l) (emptied-says e));
-        unaltered = λ _ q. elim (decLt 0 (r .listed)) [
-          | yes h ↦ clash (parity-alters (passed e) (sym (rebuilt-parity t)) h) q
-          | no h ↦ sym (emptied-none (r .listed) l (omega arith))
-        ];
+            subst (λ (s : State). Leaves g s (lent (withListed (withMode (withCleared r) 0) 0) (rebuiltTo (lent r a n l) true (g .s)) n (replicate (length l) 255))) (rebuilt-parity t)
+            (parity-leaves e);
         refused = λ z. absurd (z refl);
       }
 
-  pub rebuild-answered : 0 ≡ numberOf r (length a) (length n) l rebuild → (parity : Bool) → parity ≡ parityFailed (r .geometry) (flagAt r)
-      → (r' : Shelf) (a' l' : List ℕ) → a' ≡ rebuiltTo (lent r a n l) parity (r .geometry .s) → r' ≡ rebuiltRecord r parity → l' ≡ rebuiltList r parity l
+  pub rebuild-answered : 0 ≡ numberOf r (length a) (length n) l rebuild → ((i : ℕ) → getD l i 0 < 256) → (parity : Bool) → parity ≡ parityFailed (r .geometry) (flagAt r)
+      → (r' : Shelf) (a' l' : List ℕ) → a' ≡ rebuiltTo (lent r a n l) parity (r .geometry .s) → r' ≡ rebuiltRecord r parity → l' ≡ rebuiltList parity l
       → Answered (lent r a n l) rebuild 0 (lent r' a' n l')
-  rebuild-answered e parity t r' a' l' ea er el =
+  rebuild-answered e bytes parity t r' a' l' ea er el =
       subst (λ (h : Lent). Answered (lent r a n l) rebuild 0 h) (sym (λ i. record { shelf = er i; array = ea i; log = n; list = el i }))
-      (by-parity e parity (unfold stateOf in sym t))
+      (by-parity e bytes parity (unfold stateOf in sym t))

@@ -1,58 +1,36 @@
 -- Resync and full resync: what they leave is what is promised, from what the functions below them promise.
 -- Assumes nothing.
-use mathlib.Core.Bool.{Bool, true, not, _&&_, _||_}
 use mathlib.Core.List.{List}
 use mathlib.Core.Logic.{_≢_}
-use mathlib.Core.Option.{Option, none, some}
-use mathlib.Core.Path.{_≡_, refl, sym, ap, ap₂, _∙_, subst}
+use mathlib.Core.Path.{_≡_, refl, sym, ap, _∙_, subst}
 use Prim.Native.Nat.{ℕ, _+_, _*_, _≤_, _<_}
 use native.Mathlib.Omega.{arith}
 use lib.Dec.{eqb, ltb}
-use lib.ListN.{length, replicate}
+use lib.ListN.{length, getD, replicate}
 use borrow.Author.Tests.{eq-eqb, ne-eqb, lt-ltb, le-ltb, ltb-false}
 use Rattle.stripe.specs.Places.{place, parityMade, parityMadeAll}
-use Rattle.shelf.specs.Counting.{choose, any, first}
+use Rattle.shelf.specs.Counting.{choose, first}
 use Rattle.shelf.specs.Members.{InRange}
-use Rattle.shelf.specs.State.{Log, State, isSome, listed, stale}
+use Rattle.shelf.specs.State.{State, listed, stale, marksIn}
 use Rattle.shelf.specs.Status.{resync, fullResync}
-use Rattle.shelf.specs.Calls.{inMode, resyncStripe, settled, made, remade, resynced, work}
-use Rattle.shelf.specs.Words.{words}
-use Rattle.shelf.specs.HashList.{Measures, Passing, entries, staleIn, listedIn}
+use Rattle.shelf.specs.Calls.{inMode, resyncStripe, made, remade, resynced, work}
+use Rattle.shelf.specs.Words.{words, bytesOf}
+use Rattle.shelf.specs.HashList.{Measures, Lists, Entry, entries, encode, staleIn, listedIn}
 use Rattle.shelf.specs.Rewriting.{Rewritten, dropStripe}
-use Rattle.shelf.specs.Lent.{Lent, lent, flagAt, flagsOf, stateOf, listedBy, arrayLength, logLength, listLength, badMeasures, badRecord, badLengths, triesList, inputRows, numberOf, arrayBlock, roleBlock, sameRecord, changesList, altersList, toldStripe, Leaves, Answered}
+use Rattle.shelf.specs.Lent.{Lent, lent, flagAt, flagsOf, stateOf, listedBy, arrayLength, logLength, listLength, badMeasures, badRecord, badLengths, triesList, inputRows, numberOf, arrayBlock, roleBlock, recordOf, logOf, listOf, toldStripe, Leaves, Answered}
 use Rattle.shelf.specs.Records.{withMode, withListed}
 use Rattle.shelf.specs.declared.record.Geometry.{Geometry}
 use Rattle.shelf.specs.declared.record.Shelf.{Shelf}
-use Rattle.shelf.proofs.general.TestLaws.{cases, clash, choose-true, choose-false}
+use Rattle.shelf.proofs.general.TestLaws.{choose-true, choose-false}
 use Rattle.shelf.proofs.numbers.TableRows.{row-zero}
-use Rattle.shelf.proofs.general.CountLaws.{any-ext, any-some, any-found, first-ext, first-found, first-none, setRow-here}
+use Rattle.shelf.proofs.general.CountLaws.{any-ext, first-ext}
 use Rattle.shelf.proofs.numbers.InputLaws.{Passed, in-range, fine-record, lengths-pass, inputs-pass, measures-of}
 use Rattle.shelf.proofs.lent.LayoutLaws.{log-is, role-data, role-p, role-q, by-role}
-use Rattle.shelf.proofs.lent.LeavesLaws.{same-flags, leaves-here, refused-answered}
+use Rattle.shelf.proofs.lent.LeavesLaws.{same-flags, marks-here, leaves-here, refused-answered}
 use Rattle.shelf.proofs.hashlist.ListMarks.{listed-found}
-use Rattle.shelf.proofs.hashlist.ListMeaning.{passing}
-use Rattle.shelf.proofs.calls.MadeLaws.{HoldsArray, leaves-says, rowed-same, made-says, made-leaves, Filled, remade-leaves}
-
--- a lowest number that is found passes the test
-first-holds : (n : ℕ) (f : ℕ → Bool) → first n f < n → f (first n f) ≡ true
-first-holds n f h = cases (any n f) (λ t. first-found n f t .1) (λ t. let e : first n f ≡ n = first-none n f t in absurd (omega (arith, e)))
-
--- ---- a stale stripe whose entries are dropped alters the list
-
-no-longer : (o c : Option ℕ) → (isSome o || isSome c) ≡ true → not (sameRecord o none && sameRecord c none) ≡ true
-unfolding isSome sameRecord
-no-longer none none e = e
-no-longer none (some r) e = refl
-no-longer (some r) c e = refl
-
-pub drop-alters : (g : Geometry) (n m : Log) (t : ℕ) → t < g .s → any (g .d) (listed n t) ≡ true → ((i : ℕ) → m .ori t i ≡ none) → ((i : ℕ) → m .cur t i ≡ none)
-    → changesList g n m ≡ true
-unfolding changesList
-drop-alters g n m t ht st eo ec =
-    let f = any-found (g .d) (listed n t) st in
-    let i : ℕ = f .0 in
-    any-some (g .s) _ t ht (any-some (g .d) _ i (f .1)
-    (ap₂ (λ (o c : Option ℕ). not (sameRecord (n .ori t i) o && sameRecord (n .cur t i) c)) (eo i) (ec i) ∙ no-longer (n .ori t i) (n .cur t i) (f .2)))
+use Rattle.shelf.proofs.lent.ListLayout.{list-back}
+use Rattle.shelf.proofs.hashlist.WordLaws.{words-bytes}
+use Rattle.shelf.proofs.calls.MadeLaws.{HoldsArray, HoldsList, says-marks, rowed-same, made-says, made-leaves, Filled, remade-leaves}
 
 -- ---- resync
 
@@ -65,11 +43,11 @@ module _ (r : Shelf) (a n l : List ℕ) where
   passed e = inputs-pass r (length a) (length n) l _ (sym e) .0
 
   -- what the functions below ask
-  pub resync-asks : 0 ≡ numberOf r (length a) (length n) l resync → Measures (r .geometry) l × Passing (words l) (r .geometry)
-  resync-asks e = (measures-of g l (passed e .range) (passed e .list), passing (words l) g (r .next) (r .listed) (passed e .valid))
+  pub resync-asks : 0 ≡ numberOf r (length a) (length n) l resync → Measures (r .geometry) l × Lists (words l) (r .geometry) (r .listed)
+  resync-asks e = (measures-of g l (passed e .range) (passed e .list), record { next = r .next; passing = passed e .valid })
 
   pub stripe-asks : 0 ≡ numberOf r (length a) (length n) l resync → (t : ℕ) → t < r .geometry .s
-      → InRange (r .geometry) × ((t < r .geometry .s) × ((length a ≡ arrayLength (r .geometry)) × (Measures (r .geometry) l × Passing (words l) (r .geometry))))
+      → InRange (r .geometry) × ((t < r .geometry .s) × ((length a ≡ arrayLength (r .geometry)) × (Measures (r .geometry) l × Lists (words l) (r .geometry) (r .listed))))
   stripe-asks e t ht = (passed e .range, (ht, (passed e .array, resync-asks e)))
 
   -- the list's stale stripes are the state's
@@ -95,10 +73,10 @@ module _ (r : Shelf) (a n l : List ℕ) where
 
   -- none is stale
   pub resync-none : length (r .failed) ≡ 19 → 0 ≡ numberOf r (length a) (length n) l resync → (t : ℕ) → t ≡ first (r .geometry .s) (staleIn (words l) (r .geometry)) → r .geometry .s ≤ t
-      → (r' : Shelf) → r' ≡ withMode r 0
+      → (r' : Shelf) → r' ≡ withMode r 0 → ((i : ℕ) → getD l i 0 < 256)
       → Answered (lent r a n l) resync 0 (lent r' a n l) × (t ≡ toldStripe (lent r a n l) 0)
   unfolding work resynced stateOf
-  resync-none len e t et high r' er =
+  resync-none len e t et high r' er bytes =
       let P = passed e in
       let st = stateOf (lent r a n l) in
       let low : t ≡ resyncStripe g (stateOf (lent r a n l)) = et ∙ lowest-is P in
@@ -108,8 +86,7 @@ module _ (r : Shelf) (a n l : List ℕ) where
         record {
           number = e;
           done = λ _. subst (λ (v : Shelf). Leaves g (resynced g st) (lent v a n l)) (sym er)
-              (subst (λ (s : State). Leaves g s (lent (withMode r 0) a n l)) is (leaves-here r a n l P 0 (r .failed) (flagAt r) (same-flags (r .failed) len)));
-          unaltered = λ _ _. refl;
+              (subst (λ (s : State). Leaves g s (lent (withMode r 0) a n l)) is (leaves-here r a n l P bytes 0 (r .failed) (flagAt r) (same-flags (r .failed) len)));
           refused = λ z. absurd (z refl);
         },
         told t low,
@@ -129,9 +106,18 @@ module _ (r : Shelf) (a n l : List ℕ) where
   few : Passed r (length a) (length n) l → r .listed ≤ g .e
   few P = ltb-false (g .e) (r .listed) (fine-record r (P .fine) .fits)
 
-  in-two : length (r .failed) ≡ 19 → Passed r (length a) (length n) l → Leaves g (inMode (stateOf (lent r a n l)) 2) (lent (withMode r 2) a n l)
+  -- the record and the list in mode 2
+  two-record : length (r .failed) ≡ 19 → Passed r (length a) (length n) l → withMode r 2 ≡ recordOf g (inMode (stateOf (lent r a n l)) 2)
   unfolding stateOf
-  in-two len P = leaves-here r a n l P 2 (r .failed) (flagAt r) (same-flags (r .failed) len)
+  two-record len P = λ i. record { geometry = g; mode = 2; next = r .next; listed = sym (marks-here r a n l P) i; failed = same-flags (r .failed) len i }
+
+  two-says : Passed r (length a) (length n) l → HoldsList g (inMode (stateOf (lent r a n l)) 2) (r .listed) l
+  unfolding stateOf
+  two-says P = record { length-of = P .list; passes = P .valid; ori = λ x i _ _. refl; cur = λ x i _ _. refl }
+
+  two-log : Passed r (length a) (length n) l → n ≡ logOf g (inMode (stateOf (lent r a n l)) 2)
+  unfolding stateOf
+  two-log P = log-is g (inMode (stateOf (lent r a n l)) 2) n (P .log) (λ k _. refl)
 
   made-is : (t : ℕ) → t ≡ resyncStripe g (stateOf (lent r a n l)) → t < g .s
       → made g (inMode (stateOf (lent r a n l)) 2) t (stateOf (lent r a n l) .disk t) ≡ resynced g (stateOf (lent r a n l))
@@ -143,49 +129,47 @@ module _ (r : Shelf) (a n l : List ℕ) where
       ap (λ (z : ℕ). made g (inMode st 2) z (st .disk z)) low
       ∙ sym (choose-true (ltb w (g .s)) (made g (inMode st 2) w (st .disk w)) (inMode st 0) (lt-ltb w (g .s) under))
 
-  -- the first stripe found is stale
-  found-stale : Passed r (length a) (length n) l → (t : ℕ) → t ≡ resyncStripe g (stateOf (lent r a n l)) → t < g .s
-      → any (g .d) (listed (stateOf (lent r a n l) .log) t) ≡ true
-  found-stale P t low ht =
-      let m = listed (stateOf (lent r a n l) .log) in
-      let w : ℕ = resyncStripe g (stateOf (lent r a n l)) in
-      let under : resyncStripe g (stateOf (lent r a n l)) < g .s = subst (λ (z : ℕ). z < g .s) low ht in
-      subst (λ (z : ℕ). stale g (listed (stateOf (lent r a n l) .log)) z ≡ true) (sym low) (first-holds (g .s) (stale g (listed (stateOf (lent r a n l) .log))) under)
-
-  made-alters : Passed r (length a) (length n) l → (t : ℕ) → t ≡ resyncStripe g (stateOf (lent r a n l)) → t < g .s
-      → altersList g resync (stateOf (lent r a n l)) ≡ true
-  unfolding altersList triesList work
-  made-alters P t low ht =
-      let st = stateOf (lent r a n l) in
-      ap (λ (s : State). changesList g (st .log) (s .log)) (sym (made-is t low ht))
-      ∙ (unfold made settled in drop-alters g (st .log) (made g (inMode st 2) t (st .disk t) .log) t ht (found-stale P t low ht)
-      (λ i. setRow-here t (λ _. none) (st .log .ori) t i refl) (λ i. setRow-here t (λ _. none) (st .log .cur) t i refl))
-
   pub resync-made : length (r .failed) ≡ 19 → 0 ≡ numberOf r (length a) (length n) l resync → (t k : ℕ) → t ≡ first (r .geometry .s) (staleIn (words l) (r .geometry)) → t < r .geometry .s
       → (r' : Shelf) (a' l' : List ℕ) → r' ≡ withListed (withMode r 2) k
       → a' ≡ parityMade (place (r .geometry .d) (r .geometry .s) t) (r .geometry .d) (r .geometry .b) a
-      → Rewritten (r .geometry) (dropStripe (r .geometry .d) t (entries (words l) (r .geometry))) l' k
+      → Rewritten (r .geometry) (dropStripe (r .geometry .d) t (entries (words l) (r .geometry))) l' k → ((i : ℕ) → getD l' i 0 < 256)
       → Answered (lent r a n l) resync 0 (lent r' a' n l') × (t ≡ toldStripe (lent r a n l) 0)
   unfolding work
-  resync-made len e t k et ht r' a' l' er ea W =
+  resync-made len e t k et ht r' a' l' er ea W bytes =
       let P = passed e in
       let st = stateOf (lent r a n l) in
       let two = inMode (stateOf (lent r a n l)) 2 in
       let row : ℕ → List ℕ = stateOf (lent r a n l) .disk t in
       let low : t ≡ resyncStripe g (stateOf (lent r a n l)) = et ∙ lowest-is P in
-      let L = in-two len P in
-      let Z = made-says g two t row (P .range) (r .listed) k l l' (few P) (leaves-says g two (lent (withMode r 2) a n l) L) W in (
+      let Z = made-says g two t row (P .range) (r .listed) k l l' (few P) (two-says P) W in (
         record {
           number = e;
           done = λ _.
               subst (λ (s : State). Leaves g s (lent r' a' n l')) (made-is t low ht)
               (subst (λ (h : Lent). Leaves g (made g two t row) h) (sym (λ i. record { shelf = er i; array = ea i; log = n; list = l' }))
-              (made-leaves g two t row (withMode r 2) k a n l' (P .range) ht (L .shelf) (L .log) (rowed-same g two t a ht (held P)) Z));
-          unaltered = λ _ q. clash (made-alters P t low ht) q;
+              (made-leaves g two t row (withMode r 2) k a n l' (P .range) ht (two-record len P) (two-log P) (rowed-same g two t a ht (held P)) Z bytes));
           refused = λ z. absurd (z refl);
         },
         told t low,
       )
+
+  -- the list that the state after it is laid out as
+  pub resynced-says : Passed r (length a) (length n) l → resyncStripe (r .geometry) (stateOf (lent r a n l)) < r .geometry .s
+      → HoldsList (r .geometry) (resynced (r .geometry) (stateOf (lent r a n l))) (marksIn (r .geometry) (listed (resynced (r .geometry) (stateOf (lent r a n l)) .log)))
+      (listOf (r .geometry) (resynced (r .geometry) (stateOf (lent r a n l))))
+  resynced-says P ht =
+      let st = stateOf (lent r a n l) in
+      let t : ℕ = resyncStripe g (stateOf (lent r a n l)) in
+      let es : List Entry = dropStripe (g .d) (resyncStripe g (stateOf (lent r a n l))) (entries (words l) g) in
+      let Z = made-says g (inMode st 2) t (st .disk t) (P .range) (r .listed) (length es) l (bytesOf (encode g es)) (few P) (two-says P)
+      (refl, (words-bytes (encode g es), refl)) in
+      let Z' : HoldsList g (resynced g (stateOf (lent r a n l))) (length es) (bytesOf (encode g es)) =
+      subst (λ (s : State). HoldsList g s (length es) (bytesOf (encode g es))) (made-is t refl ht) Z in
+      let at : bytesOf (encode g es) ≡ listOf g (resynced g st) =
+      list-back g (resynced g st) (length es) (bytesOf (encode g es)) (P .range) Z' (ap bytesOf (words-bytes (encode g es))) in
+      let marks : length es ≡ marksIn g (listed (resynced g st .log)) = sym (says-marks g (resynced g st) (length es) (bytesOf (encode g es)) (P .range) Z') in
+      subst (λ (k : ℕ). HoldsList g (resynced g st) k (listOf g (resynced g st))) marks
+      (subst (λ (b : List ℕ). HoldsList g (resynced g st) (length es) b) at Z')
 
 -- ---- full resync
 
@@ -210,7 +194,7 @@ pub full-made : (r : Shelf) (a n l : List ℕ) → length (r .failed) ≡ 19 →
     → a' ≡ parityMadeAll (r .geometry .s) (place (r .geometry .d) (r .geometry .s)) (r .geometry .d) (r .geometry .b) a
     → l' ≡ replicate (length l) 255
     → Answered (lent r a n l) fullResync 0 (lent r' a' n l')
-unfolding work stateOf altersList triesList choose
+unfolding work stateOf choose
 full-made r a n l len e r' a' l' er ea el =
     let g = r .geometry in
     let p = full-pass r (length a) (length n) l e in
@@ -224,6 +208,5 @@ full-made r a n l len e r' a' l' er ea el =
       done = λ _.
           subst (λ (h : Lent). Leaves g (remade g st (st .disk) (flagAt r)) h) (sym (λ i. record { shelf = R i; array = ea i; log = n; list = bytes i }))
           (remade-leaves g st (st .disk) (flagAt r) a n (p .0) F (log-is g st n (p .1 .1 .0) (λ k _. refl)));
-      unaltered = λ _ q. clash refl q;
       refused = λ z. absurd (z refl);
     }

@@ -10,7 +10,7 @@ use native.Mathlib.Nat.{mul-le-mul, mul-comm, div-lt-iff-lt-mul, mod-lt}
 use native.Mathlib.Omega.{arith}
 use native.Mathlib.Decide.{ℕ-discrete}
 use lib.Dec.{eqb, ltb}
-use lib.ListN.{length}
+use lib.ListN.{length, getD}
 use borrow.Author.Tests.{lt-ltb, le-ltb, eq-eqb, ne-eqb, ltb-true, ltb-false, eqb-true, eqb-false}
 use Rattle.shelf.specs.Counting.{choose, any, first}
 use Rattle.shelf.specs.Members.{InRange, arrayMembers, memberAt, stripeOf, indexOf, addressOf, otherMissing}
@@ -287,13 +287,13 @@ read-ready r a n l at count len code e z =
     )
 
 pub read-answered : (r : Shelf) (a n l : List ℕ) → length (r .failed) ≡ 19 → (at count len code : ℕ)
-    → code ≡ numberOf r (length a) (length n) l (read at count len) → code ≡ 0 → Answered (lent r a n l) (read at count len) 0 (lent r a n l)
+    → code ≡ numberOf r (length a) (length n) l (read at count len) → code ≡ 0 → ((i : ℕ) → getD l i 0 < 256)
+    → Answered (lent r a n l) (read at count len) 0 (lent r a n l)
 unfolding numberOf work triesList stateOf
-read-answered r a n l len19 at count len code e z =
+read-answered r a n l len19 at count len code e z bytes =
     let P = inputs-pass r (length a) (length n) l _ (sym e ∙ z) .0 in
     record {
       number = sym z ∙ e;
-      done = λ _. leaves-here r a n l P (r .mode) (r .failed) (flagAt r) (flags-are (flag (r .failed)) (r .failed) len19 (λ i _. refl));
-      unaltered = λ _ _. refl;
+      done = λ _. leaves-here r a n l P bytes (r .mode) (r .failed) (flagAt r) (flags-are (flag (r .failed)) (r .failed) len19 (λ i _. refl));
       refused = λ z. absurd (z refl);
     }

@@ -3,17 +3,17 @@
 use mathlib.Core.Bool.{Bool, true, false, _&&_}
 use mathlib.Core.List.{List}
 use mathlib.Core.Path.{_≡_, refl, sym, ap, _∙_, subst}
-use Prim.Native.Nat.{ℕ, _+_, _*_, _≤_, _<_}
+use Prim.Native.Nat.{ℕ, _≤_, _<_}
 use native.Mathlib.Omega.{arith}
 use lib.Dec.{eqb, ltb}
-use lib.ListN.{length}
+use lib.ListN.{length, getD}
 use borrow.Author.Tests.{ltb-false}
 use Rattle.shelf.specs.Members.{InRange}
 use Rattle.shelf.specs.State.{State}
 use Rattle.shelf.specs.Calls.{nextLeft}
 use Rattle.shelf.specs.Words.{words}
 use Rattle.shelf.specs.HashList.{valid}
-use Rattle.shelf.specs.Lent.{Lent, lent, flagAt, stateOf, arrayBlock, listLength, roleBlock, Leaves}
+use Rattle.shelf.specs.Lent.{Lent, lent, stateOf, arrayBlock, listLength, roleBlock, Leaves}
 use Rattle.shelf.specs.Reading.{ListReady}
 use Rattle.shelf.specs.Showing.{Shows}
 use Rattle.shelf.specs.declared.record.Geometry.{Geometry}
@@ -21,7 +21,7 @@ use Rattle.shelf.specs.declared.record.Shelf.{Shelf}
 use Rattle.shelf.proofs.general.TestLaws.{cases, choose-true, choose-false}
 use Rattle.shelf.proofs.numbers.InputLaws.{Passed, fine-record}
 use Rattle.shelf.proofs.lent.LayoutLaws.{log-is, role-data, role-p, role-q, by-role}
-use Rattle.shelf.proofs.lent.LeavesLaws.{same-flags, leaves-here}
+use Rattle.shelf.proofs.lent.LeavesLaws.{same-flags, marks-here}
 use Rattle.shelf.proofs.calls.MadeLaws.{leaves-by}
 
 -- where no record is in use when nothing is listed, the next free record is settled
@@ -39,7 +39,7 @@ module _ (r : Shelf) (a n l : List ℕ) (P : Passed r (length a) (length n) l) (
       let s = stateOf (lent r a n l) in
       let F = fine-record r (P .fine) in
       record {
-        shelf = leaves-here r a n l P (r .mode) (r .failed) (flagAt r) (same-flags (r .failed) len) .shelf;
+        shelf = λ i. record { geometry = r .geometry; mode = r .mode; next = r .next; listed = sym (marks-here r a n l P) i; failed = same-flags (r .failed) len i };
         array = record {
           long = P .array;
           blocks = λ x i hx hi. by-role (r .geometry) (λ k. roleBlock (r .geometry) s x k ≡ arrayBlock (r .geometry) a x k) (λ k hk. role-data (r .geometry) s x k hk) (role-p (r .geometry) s x) (role-q (r .geometry) s x) i hi;
@@ -52,8 +52,9 @@ module _ (r : Shelf) (a n l : List ℕ) (P : Passed r (length a) (length n) l) (
       }
 
 -- what shows a state is left as a call promises
-pub shows-leaves : (g : Geometry) (s : State) (r : Shelf) (a n l : List ℕ) → InRange g → Shows g s (lent r a n l) → Leaves g s (lent r a n l)
-shows-leaves g s r a n l Y S = leaves-by g s r a n l Y (S .shelf) (S .array) (log-is g s n (S .log .long) (S .log .blocks)) (S .list)
+pub shows-leaves : (g : Geometry) (s : State) (r : Shelf) (a n l : List ℕ) → InRange g → Shows g s (lent r a n l) → ((i : ℕ) → getD l i 0 < 256)
+    → Leaves g s (lent r a n l)
+shows-leaves g s r a n l Y S bytes = leaves-by g s r a n l Y (S .shelf) (S .array) (log-is g s n (S .log .long) (S .log .blocks)) (S .list) bytes
 
 -- the geometry of a record that shows a state
 pub shows-geometry : (g : Geometry) (s : State) (h : Lent) → Shows g s h → h .shelf .geometry ≡ g

@@ -1,17 +1,16 @@
 -- Write: what an accepted one gives its functions, and what they leave is what is promised.
 -- Assumes nothing.
-use mathlib.Core.Bool.{Bool, _||_}
 use mathlib.Core.List.{List}
 use mathlib.Core.Path.{_≡_, refl, sym, _∙_}
-use Prim.Native.Nat.{ℕ, _+_, _*_, _≤_, _<_}
+use Prim.Native.Nat.{ℕ, _+_, _*_, _<_}
 use native.Mathlib.Omega.{arith}
 use lib.Dec.{eqb, ltb}
-use lib.ListN.{length}
+use lib.ListN.{length, getD}
 use borrow.Author.Tests.{eqb-true, eqb-false}
 use Rattle.shelf.specs.Members.{addresses}
 use Rattle.shelf.specs.Status.{write, badAddress, badData, codeOf}
 use Rattle.shelf.specs.Calls.{work, writeTo}
-use Rattle.shelf.specs.Lent.{lent, flagAt, listedBy, stateOf, numberOf, triesList, altersList, Answered}
+use Rattle.shelf.specs.Lent.{lent, flagAt, listedBy, stateOf, numberOf, triesList, Answered}
 use Rattle.shelf.specs.Writing.{WriteReady, WrittenTo}
 use Rattle.shelf.specs.declared.record.Shelf.{Shelf}
 use Rattle.shelf.proofs.general.TestLaws.{or-left, not-off}
@@ -42,12 +41,11 @@ module _ (r : Shelf) (a n l : List ℕ) (len : length (r .failed) ≡ 19) (at co
       }
 
   pub write-answered : (r' : Shelf) (a' n' l' : List ℕ) → WrittenTo (lent r a n l) (r .geometry .s) at count v (lent r' a' n' l')
-      → Answered (lent r a n l) (write at count v) 0 (lent r' a' n' l')
-  unfolding work altersList triesList
-  write-answered r' a' n' l' T =
+      → ((i : ℕ) → getD l' i 0 < 256) → Answered (lent r a n l) (write at count v) 0 (lent r' a' n' l')
+  unfolding work
+  write-answered r' a' n' l' T bytes =
       record {
         number = sym z ∙ e;
-        done = λ _. shows-leaves (r .geometry) (writeTo (r .geometry) (r .geometry .s) at count v (stateOf (lent r a n l))) r' a' n' l' (passed .0 .range) (T .shows);
-        unaltered = λ _ q. T .keeps q;
+        done = λ _. shows-leaves (r .geometry) (writeTo (r .geometry) (r .geometry .s) at count v (stateOf (lent r a n l))) r' a' n' l' (passed .0 .range) T bytes;
         refused = λ w. absurd (w refl);
       }

@@ -1,9 +1,13 @@
 -- Laws of block addresses: an address is its stripe times d plus its data index.
 -- Assumes nothing.
+use mathlib.Core.Logic.{⊎-elim}
 use mathlib.Core.Path.{_≡_, ap, _∙_}
 use Prim.Native.Nat.{ℕ, suc, _+_, _*_, _/_, _%_, _≤_, _<_}
-use native.Mathlib.Nat.{mod-eq-of-lt, add-zero, mul-comm, mul-le-mul-right, suc-mul, mul-add-div-right, div-eq-of-lt, div-add-mod', mul-add-mod-self-right}
+use native.Mathlib.Nat.{mod-eq-of-lt, add-zero, mul-comm, mul-le-mul-right, suc-mul, mul-add-div-right, div-eq-of-lt, div-add-mod', mul-add-mod-self-right, div-lt-iff-lt-mul}
 use native.Mathlib.Omega.{arith}
+use lib.Dec.{ltb}
+use borrow.Author.Tests.{ltb-true, ltb-false}
+use Rattle.shelf.proofs.general.TestLaws.{either-way}
 
 pub stripe-of : (q d k : ℕ) → k < d → (q * d + k) / d ≡ q
 stripe-of q d k o = mul-add-div-right (omega arith) q k ∙ ap (λ (j : ℕ). q + j) (div-eq-of-lt o) ∙ add-zero q
@@ -20,3 +24,24 @@ stripe-under q d s k o l =
     let b : suc q * d ≡ q * d + d = suc-mul q d in
     let c : s * d ≡ d * s = mul-comm s d in
     omega arith
+
+-- what is of a lower stripe is lower, and stripes rise with addresses
+pub stripe-up : (a b d : ℕ) → 0 < d → a ≤ b → a / d ≤ b / d
+stripe-up a b d o l =
+    ⊎-elim
+    (λ t.
+    let z : b < a / d * d = div-lt-iff-lt-mul o .0 (ltb-true (b / d) (a / d) t) in
+    let y : a / d * d + a % d ≡ a = address-is a d in
+    absurd (omega arith))
+    (λ t. ltb-false (b / d) (a / d) t)
+    (either-way (ltb (b / d) (a / d)))
+
+pub stripe-under-less : (a b d : ℕ) → 0 < d → a / d < b / d → a < b
+stripe-under-less a b d o l =
+    ⊎-elim
+    (λ t. ltb-true a b t)
+    (λ t. let y : b / d ≤ a / d = stripe-up b a d o (ltb-false a b t) in absurd (omega arith))
+    (either-way (ltb a b))
+
+pub stripe-less : (a b d : ℕ) → 0 < d → a / d < b / d → a ≤ b
+stripe-less a b d o l = let z : a < b = stripe-under-less a b d o l in omega arith

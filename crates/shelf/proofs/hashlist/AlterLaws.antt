@@ -1,67 +1,25 @@
--- The entries of a list that passes number 3 fit together, also without a stripe.
+-- The entries of a list that passes number 3 fit together, also without a stripe or with its entries replaced. Where they stand in the list's
+-- places, and what the alterations leave behind them.
 -- Assumes nothing.
 use mathlib.Core.Bool.{Bool, true, false, _||_, or-true}
 use mathlib.Core.List.{List, [], _∷_}
-use mathlib.Core.Logic.{inl, inr, ⊎-elim}
-use mathlib.Core.Path.{_≡_, refl, sym, ap, _∙_, subst}
+use mathlib.Core.Logic.{inl, inr, ⊎-elim, _≢_}
+use mathlib.Core.Path.{_≡_, refl, sym, ap, ap₂, _∙_, subst}
 use Prim.Native.Nat.{ℕ, _+_, _*_, _/_, _≤_, _<_}
-use native.Mathlib.Nat.{zero-add, div-lt-iff-lt-mul, mul-comm}
 use native.Mathlib.Omega.{arith}
 use lib.Dec.{eqb, ltb}
 use lib.ListN.{length, take}
-use borrow.Author.Tests.{eq-eqb, lt-ltb, ltb-true}
+use borrow.Author.Tests.{lt-ltb, ltb-true}
 use Rattle.shelf.specs.declared.record.Geometry.{Geometry}
-use Rattle.shelf.specs.Counting.{choose}
-use Rattle.shelf.specs.HashList.{noneWord, addressAt, oriAt, lookup, isRecord, allListed, goodStripe, valid, Entry, entryAt, entriesFrom, entries}
-use Rattle.shelf.specs.Rewriting.{encode, dropStripe, held, merged, sunk, at3, Segment}
+use Rattle.shelf.specs.HashList.{noneWord, isRecord, valid, Entry, entryIn, entries, encode}
+use Rattle.shelf.specs.Rewriting.{dropStripe, merged, at3, Segment, table, placed, KeptFrom, NoneBehind, Opened, Filled}
 use Rattle.shelf.proofs.general.TestLaws.{either-way}
-use Rattle.shelf.proofs.general.AddressLaws.{stripe-of, stripe-under}
-use Rattle.shelf.proofs.hashlist.DecodeLaws.{Rising, Under, InE, decode-encode}
-use Rattle.shelf.proofs.hashlist.PlaceLaws.{listed-each}
+use Rattle.shelf.proofs.general.AddressLaws.{stripe-of}
+use Rattle.shelf.proofs.hashlist.DecodeLaws.{Rising, InE, Named, Stands, decode-encode}
 use Rattle.shelf.proofs.hashlist.EncodeLaws.{Fit, Fits, encode-valid}
-use Rattle.shelf.proofs.hashlist.FoundLaws.{found-address, found-sound, entries-count}
-use Rattle.shelf.proofs.hashlist.TableLaws.{length-held, held-take}
-use Rattle.shelf.proofs.hashlist.GatherLaws.{entries-at, entries-has, drop-in, in-drop, drop-rising, entries-rising, sunk-merged, merged-rising, in-merged, merged-in, length-merged}
-
-fits-of : (g : Geometry) (next : ℕ) (es xs : List Entry) → ((x : Entry) → InE x xs → Fit g next es x) → Fits g next es xs
-fits-of g next es [] gs = tt
-fits-of g next es (x ∷ xs) gs = (gs x (inl refl), fits-of g next es xs (λ y n. gs y (inr n)))
-
-pub fit-of : (g : Geometry) (next : ℕ) (es xs : List Entry) → Fits g next es xs → (x : Entry) → InE x xs → Fit g next es x
-fit-of g next es [] gs x n = absurd n
-fit-of g next es (y ∷ ys) gs x (inl q) = subst (λ (z : Entry). Fit g next es z) (sym q) (gs .0)
-fit-of g next es (y ∷ ys) gs x (inr n) = fit-of g next es ys (gs .1) x n
-
-module _ (w : List ℕ) (g : Geometry) (next listed : ℕ) (hpos : 0 < g .h) (dpos : 0 < g .d) (small : g .e ≤ 4096)
-    (v : valid w g next listed ≡ true) where
-  entry-fit : (x : Entry) → InE x (entries w g) → Fit g next (entries w g) x
-  unfolding entries goodStripe choose
-  entry-fit x n =
-      let t = entries-at (g .d * g .s) w g 0 x n in
-      let b : ℕ = t .address in
-      let p : ℕ = lookup w g b in
-      let s = found-sound w g next listed hpos dpos small v b (t .listed) in
-      subst (λ (y : Entry). Fit g next (entriesFrom (g .d * g .s) w g 0) y) (sym (t .is))
-      (record {
-        below = s .entry-is .low;
-        ori = s .entry-is .ori;
-        cur = s .entry-is .cur;
-        some = s .entry-is .some;
-        stripe = λ o k l.
-            let base : ℕ = addressAt w (g .h) p / g .d * g .d in
-            let all : allListed (g .d) w g base ≡ true =
-            ap (λ (u : Bool). choose u (allListed (g .d) w g base) true) (sym (eq-eqb (oriAt w (g .h) p) noneWord o)) ∙ s .stripe in
-            let on : lookup w g (base + k) < g .e = listed-each (g .d) w g base k all l in
-            record {
-              who = entryAt w g (lookup w g (base + k));
-              within = entries-has (g .d * g .s) w g 0 (base + k) (omega arith)
-                  (rw zero-add (stripe-under (addressAt w (g .h) p / g .d) (g .d) (g .s) k (s .entry-is .low) l)) on;
-              is = found-address w g next listed hpos dpos small v (base + k) on;
-            };
-      })
-
-  pub entries-fits : Fits g next (entries w g) (entries w g)
-  entries-fits = fits-of g next (entries w g) (entries w g) entry-fit
+use Rattle.shelf.proofs.hashlist.FoundLaws.{fits-of, fit-of, entries-taken, entries-rising, entries-fits, entries-count, listed-room, unused}
+use Rattle.shelf.proofs.hashlist.TableLaws.{table-take, taken-count}
+use Rattle.shelf.proofs.hashlist.GatherLaws.{drop-in, in-drop, drop-rising, spread-merged, merged-rising, in-merged, merged-in, length-merged}
 
 -- without stripe k they still fit
 pub drop-fits : (g : Geometry) (next : ℕ) (es : List Entry) (k : ℕ) → Fits g next es es
@@ -92,9 +50,18 @@ length-drop d k (x ∷ xs) = go (eqb (x .address / d) k) (length-drop d k xs)
     go true l = omega arith
     go false l = omega arith
 
-under-of : (g : Geometry) (next : ℕ) (es xs : List Entry) → 0 < g .d → Fits g next es xs → Under (g .d * g .s) xs
-under-of g next es [] o gs = tt
-under-of g next es (x ∷ xs) o gs = (rw (mul-comm (g .d) (g .s)) (div-lt-iff-lt-mul o .0 (gs .0 .below)), under-of g next es xs o (gs .1))
+-- no address is none
+pub named-in : (es : List Entry) → Named es → (x : Entry) → InE x es → x .address ≢ noneWord
+named-in [] n x i = absurd i
+named-in (y ∷ ys) n x (inl q) = λ e. n .0 (ap (λ (z : Entry). z .address) (sym q) ∙ e)
+named-in (y ∷ ys) n x (inr i) = named-in ys (n .1) x i
+
+pub in-named : (es : List Entry) → ((x : Entry) → InE x es → x .address ≢ noneWord) → Named es
+in-named [] f = tt
+in-named (y ∷ ys) f = (f y (inl refl), in-named ys (λ x i. f x (inr i)))
+
+pub drop-named : (d k : ℕ) (es : List Entry) → Named es → Named (dropStripe d k es)
+drop-named d k es n = in-named (dropStripe d k es) (λ x i. named-in es n x (drop-in d k x es i .0))
 
 pub record Dropped (w : List ℕ) (g : Geometry) (next listed : ℕ) (k : ℕ) : Type 0 where
   pub passes : valid (encode g (dropStripe (g .d) k (entries w g))) g next (length (dropStripe (g .d) k (entries w g))) ≡ true
@@ -108,26 +75,58 @@ dropped w g next listed k hp dp se le v =
     let b = length-drop (g .d) k (entries w g) in omega arith in
     let r : Rising 0 es = drop-rising 0 (g .d) k (entries w g) (entries-rising w g next listed hp dp se v) in
     let f : Fits g next es es = drop-fits g next (entries w g) k (entries-fits w g next listed hp dp se v) in
-    record {
-      passes = encode-valid g next (length es) es hp se n refl r f;
-      stands = decode-encode g es hp se n r (under-of g next es es dp f);
-    }
+    let u : Named es = drop-named (g .d) k (entries w g) (entries-taken w g .1 .0) in
+    record { passes = encode-valid g next (length es) es hp se n refl r u f; stands = decode-encode g es hp se n u }
+
+-- ---- the entries in the list's places
+
+stands-table : (w : List ℕ) (h p : ℕ) (es : List Entry) → Stands w h p es → table (length es) p (entryIn w h) ≡ es
+unfolding table
+stands-table w h p [] s = refl
+stands-table w h p (x ∷ xs) s = ap₂ (λ (y : Entry) (ys : List Entry). y ∷ ys) (s .0) (stands-table w h (p + 1) xs (s .1))
+
+module _ (w : List ℕ) (g : Geometry) (next listed : ℕ) (hpos : 0 < g .h) (dpos : 0 < g .d) (small : g .e ≤ 4096)
+    (v : valid w g next listed ≡ true) where
+  -- as many places as the count says hold the entries
+  entries-first : take listed (placed (g .e) w (g .h) 0) ≡ entries w g
+  entries-first =
+      let es : List Entry = entries w g in
+      ap (λ (n : ℕ). take n (placed (g .e) w (g .h) 0)) (sym (entries-count w g next listed hpos dpos small v))
+      ∙ table-take (length es) (g .e) 0 (entryIn w (g .h)) (entries-taken w g .1 .1) ∙ stands-table w (g .h) 0 es (entries-taken w g .0)
+
+  -- where they were closed up, the m entries left are those without stripe k
+  pub closed-entries : (k m : ℕ) (u : List ℕ) → m ≤ listed
+      → take m (placed (g .e) u (g .h) 0) ≡ dropStripe (g .d) k (take listed (placed (g .e) w (g .h) 0))
+      → (take m (placed (g .e) u (g .h) 0) ≡ dropStripe (g .d) k (entries w g)) × (m ≡ length (dropStripe (g .d) k (entries w g)))
+  closed-entries k m u o q =
+      let room = listed-room w g next listed hpos dpos small v in
+      let is : take m (placed (g .e) u (g .h) 0) ≡ dropStripe (g .d) k (entries w g) = q ∙ ap (dropStripe (g .d) k) entries-first in
+      (is, taken-count m (g .e) u (g .h) (dropStripe (g .d) k (entries w g)) (omega arith) is)
+
+  pub closed-room : (k c m : ℕ) (u : List ℕ) → m ≤ listed
+      → take m (placed (g .e) u (g .h) 0) ≡ dropStripe (g .d) k (take listed (placed (g .e) w (g .h) 0))
+      → length (dropStripe (g .d) k (entries w g)) + c ≤ g .e → m + c ≤ g .e
+  closed-room k c m u o q r = let few = closed-entries k m u o q .1 in omega arith
+
+  -- behind them all stays none: where the entries were closed up, and where c places among the m left were opened and filled
+  pub none-closed : (m : ℕ) (u : List ℕ) → KeptFrom (g .h + 4 * listed) w u → NoneBehind (g .h) (g .e) m listed u
+  none-closed m u a j x y l = a j y ∙ unused w g next listed hpos dpos small v j y l
+
+  pub none-filled : (m c i : ℕ) (u s z : List ℕ) → i ≤ m → KeptFrom (g .h + 4 * listed) w u → KeptFrom (g .h + 4 * (m + c)) u s
+      → KeptFrom (g .h + 4 * (i + c)) s z → NoneBehind (g .h) (g .e) (m + c) listed z
+  none-filled m c i u s z o a b k j x y l = k j (omega arith) ∙ b j x ∙ none-closed (m + c) u a j x y l
 
 -- ---- stripe k's entries replaced
 
 module _ (w : List ℕ) (g : Geometry) (next listed : ℕ) (k : ℕ) (hpos : 0 < g .h) (dpos : 0 < g .d) (small : g .e ≤ 4096)
     (v : valid w g next listed ≡ true) where
-  pub merged-held : (n c : ℕ) (x y z : List ℕ) → length (dropStripe (g .d) k (entries w g)) + c ≤ g .e → Segment (g .d) k c y
-      → held n 0 x ≡ dropStripe (g .d) k (entries w g) → held (g .e) 0 z ≡ sunk c n (held (g .e) 0 x) y
-      → held (n + c) 0 z ≡ merged c y (dropStripe (g .d) k (entries w g))
-  merged-held n c x y z l s q r =
-      let es : List Entry = dropStripe (g .d) k (entries w g) in
-      let nl : n ≡ length es = sym (length-held n 0 x) ∙ ap length q in
-      sym (held-take (n + c) (g .e) 0 z (omega arith)) ∙ ap (take (n + c)) r
-      ∙ sunk-merged c n (g .d) k c y (held (g .e) 0 x) es (omega arith) s
+  pub merged-placed : (n c i : ℕ) (t u z : List Entry) (y : List ℕ) → length u ≡ g .e → n + c ≤ g .e → Segment (g .d) k c y
+      → take n t ≡ dropStripe (g .d) k (entries w g) → Opened (g .d) k c n t u i → Filled i c u z y
+      → take (n + c) z ≡ merged c y (dropStripe (g .d) k (entries w g))
+  merged-placed n c i t u z y lu l s q op fl =
+      spread-merged (g .d) k c n i y t u z (dropStripe (g .d) k (entries w g)) dpos s
       (drop-rising 0 (g .d) k (entries w g) (entries-rising w g next listed hpos dpos small v))
-      (λ u i. drop-in (g .d) k u (entries w g) i .1)
-      (rw (length-held (g .e) 0 x) (omega arith)) (held-take n (g .e) 0 x (omega arith) ∙ q)
+      (λ x m. drop-in (g .d) k x (entries w g) m .1) (omega arith) q op fl
 
 record-more : (r a b : ℕ) → a ≤ b → isRecord r a ≡ true → isRecord r b ≡ true
 unfolding isRecord
@@ -144,9 +143,10 @@ pub record Altered (w : List ℕ) (g : Geometry) (next listed : ℕ) (k c : ℕ)
 
 -- the list with stripe k's entries replaced passes number 3, and stands for them, where the new entries fit
 pub altered : (w : List ℕ) (g : Geometry) (next listed : ℕ) (k c x : ℕ) (y : List ℕ) → 0 < g .h → 0 < g .d → g .e ≤ 4096
+    → g .d * g .s ≤ noneWord
     → length (dropStripe (g .d) k (entries w g)) + c ≤ g .e → valid w g next listed ≡ true → next ≤ x → Segment (g .d) k c y
     → ((j : ℕ) → j < c → Fit g x (merged c y (dropStripe (g .d) k (entries w g))) (at3 y j)) → Altered w g next listed k c y x
-altered w g next listed k c x y hp dp se le v nx sg new =
+altered w g next listed k c x y hp dp se few le v nx sg new =
     let es : List Entry = dropStripe (g .d) k (entries w g) in
     let ms : List Entry = merged c y es in
     let a : length (entries w g) ≡ listed = entries-count w g next listed hp dp se v in
@@ -170,7 +170,6 @@ altered w g next listed k c x y hp dp se le v nx sg new =
     })
     (λ j. subst (λ (z : Entry). Fit g x ms z) (sym (j .is)) (new (j .index) (j .under)))
     (in-merged c y es u i)) in
-    record {
-      passes = encode-valid g x (length es + c) ms hp se n (sym len) r f;
-      stands = decode-encode g ms hp se n r (under-of g x ms ms dp f);
-    }
+    let nm : Named ms =
+    in-named ms (λ u i q. let b = fit-of g x ms ms f u i .below in omega arith) in
+    record { passes = encode-valid g x (length es + c) ms hp se n (sym len) r nm f; stands = decode-encode g ms hp se n nm }

@@ -1,24 +1,24 @@
--- The entries gathered by place are those by address.
+-- Entries put in, dropped, gathered and merged.
 -- Assumes nothing.
-use mathlib.Core.Bool.{Bool, true, false, not, _&&_}
-use mathlib.Core.List.{List, [], _∷_, _++_}
+use mathlib.Core.Bool.{Bool, true, false}
+use mathlib.Core.List.{List, [], _∷_, _++_, append-assoc, append-nil}
 use mathlib.Core.Logic.{_⊎_, inl, inr, ⊎-elim, _≢_}
 use mathlib.Core.Path.{_≡_, refl, sym, ap, ap₂, _∙_, subst}
-use Prim.Native.Nat.{ℕ, zero, suc, _+_, _*_, _/_, _≤_, _<_}
-use native.Mathlib.Nat.{add-zero, zero-add, div-lt-iff-lt-mul, mul-comm}
+use Prim.Native.Nat.{ℕ, zero, suc, _+_, _-_, _/_, _≤_, _<_}
+use native.Mathlib.Nat.{sub-zero, add-zero, zero-add}
+use native.Mathlib.Numerals.{add-one}
 use native.Mathlib.Omega.{arith}
 use lib.Dec.{eqb, ltb}
-use lib.ListN.{length, getD, set, take, length-set}
-use lib.Seq.{getD-set-same, getD-set-other, take-suc, take-suc-set, take-set-le}
+use lib.ListN.{length, getD, set, take, drop, length-set}
+use lib.Seq.{getD-set-same, take-suc, take-suc-set, take-set-le, take-add, drop-cons, drop-set-lt}
+use Rattle.shelf.proofs.general.AddressLaws.{stripe-less, stripe-under-less}
 use borrow.Author.Tests.{eq-eqb, ne-eqb, lt-ltb, le-ltb, eqb-true, eqb-false, ltb-true, ltb-false}
-use Rattle.shelf.specs.declared.record.Geometry.{Geometry}
-use Rattle.shelf.specs.HashList.{addressAt, oriAt, curAt, lookup, valid, Entry, entry, entryAt, entriesFrom, entries, entryIn}
-use Rattle.shelf.specs.Rewriting.{sink, dropStripe, keeps, insertE, at3, held, merged, sunk, Segment}
-use Rattle.shelf.proofs.general.TestLaws.{either-way, not-so, and-both, and-false}
-use Rattle.shelf.proofs.hashlist.ChainLaws.{entry-eq}
-use Rattle.shelf.proofs.hashlist.DecodeLaws.{Rising, Under, rising-less, InE, entries-hit, entries-step}
-use Rattle.shelf.proofs.hashlist.FoundLaws.{found-address, found-sound}
-use Rattle.shelf.proofs.hashlist.TableLaws.{noEntry, sink-stop, sink-turn}
+use Rattle.shelf.specs.HashList.{Entry}
+use Rattle.shelf.specs.Rewriting.{dropStripe, insertE, at3, merged, Segment, table, held, NotBelow, Opening, Opened, Filled}
+use Rattle.shelf.proofs.general.TestLaws.{either-way}
+use Rattle.shelf.proofs.hashlist.DecodeLaws.{Rising, Under, rising-less, InE}
+use Rattle.shelf.proofs.hashlist.FoundLaws.{rising-in}
+use Rattle.shelf.proofs.hashlist.TableLaws.{noEntry, table-snoc}
 
 -- ---- an entry put into rising entries
 
@@ -32,109 +32,11 @@ unfolding insertE
 insert-here y x xs o =
     ap (λ (t : Bool). elim t as (λ _. List Entry) [ true ↦ x ∷ insertE y xs | false ↦ y ∷ x ∷ xs ]) (le-ltb (x .address) (y .address) o)
 
-insert-end : (y : Entry) (es : List Entry) → Under (y .address) es → insertE y es ≡ es ++ (y ∷ [])
-unfolding insertE
-insert-end y [] u = refl
-insert-end y (x ∷ xs) u = insert-past y x xs (u .0) ∙ ap (λ (r : List Entry). x ∷ r) (insert-end y xs (u .1))
-
--- entries of a slice that rise, put into none, stand as they do in the slice
-held-snoc : (c i : ℕ) (y : List ℕ) → held (suc c) i y ≡ held c i y ++ (at3 y (i + c) ∷ [])
-unfolding held
-held-snoc zero i y = ap (λ (k : ℕ). at3 y k ∷ []) (sym (add-zero i))
-held-snoc (suc c) i y =
-    let e : i + 1 + c ≡ i + suc c = omega arith in
-    ap (λ (es : List Entry). at3 y i ∷ es) (held-snoc c (i + 1) y ∙ ap (λ (k : ℕ). held c (i + 1) y ++ (at3 y k ∷ [])) e)
-
-held-under : (f i a : ℕ) (y : List ℕ) → ((j : ℕ) → j < f → at3 y (i + j) .address < a) → Under a (held f i y)
-unfolding held
-held-under zero i a y h = tt
-held-under (suc f) i a y h = (
-  subst (λ (k : ℕ). at3 y k .address < a) (add-zero i) (h 0 (omega arith)),
-  held-under f (i + 1) a y (λ j l. let e : i + suc j ≡ i + 1 + j = omega arith in subst (λ (k : ℕ). at3 y k .address < a) e (h (suc j) (omega arith))),
-)
-
-pub merged-alone : (d k c : ℕ) (y : List ℕ) → Segment d k c y → (n : ℕ) → n ≤ c → merged n y [] ≡ held n 0 y
-unfolding merged held
-merged-alone d k c y s zero h = refl
-merged-alone d k c y s (suc n) h =
-    ap (insertE (at3 y n)) (merged-alone d k c y s n (omega arith))
-    ∙ insert-end (at3 y n) (held n 0 y)
-    (held-under n 0 (at3 y n .address) y (λ j l. subst (λ (m : ℕ). at3 y m .address < at3 y n .address) (sym (zero-add j)) (s .up j n l (omega arith))))
-    ∙ ap (λ (m : ℕ). held n 0 y ++ (at3 y m ∷ [])) (sym (zero-add n)) ∙ sym (held-snoc n 0 y)
-
-insert-snoc : (y z : Entry) (es : List Entry) → y .address ≤ z .address → insertE y (es ++ (z ∷ [])) ≡ insertE y es ++ (z ∷ [])
-unfolding insertE
-insert-snoc y z [] o = insert-here y z [] o
-insert-snoc y z (x ∷ xs) o =
-    ⊎-elim
-    (λ t. let k = ltb-true (x .address) (y .address) t in insert-past y x (xs ++ (z ∷ [])) k
-    ∙ ap (λ (r : List Entry). x ∷ r) (insert-snoc y z xs o) ∙ ap (λ (r : List Entry). r ++ (z ∷ [])) (sym (insert-past y x xs k)))
-    (λ t. let k = ltb-false (x .address) (y .address) t in insert-here y x (xs ++ (z ∷ [])) k
-    ∙ ap (λ (r : List Entry). r ++ (z ∷ [])) (sym (insert-here y x xs k)))
-    (either-way (ltb (x .address) (y .address)))
-
-rising-init : (a : ℕ) (es : List Entry) (z : Entry) → Rising a (es ++ (z ∷ [])) → Rising a es
-rising-init a [] z r = tt
-rising-init a (x ∷ xs) z r = (r .0, rising-init (suc (x .address)) xs z (r .1))
-
 rising-last : (a b : ℕ) (es : List Entry) (z : Entry) → z .address < b → Rising a (es ++ (z ∷ []))
     → Under b (es ++ (z ∷ [])) × (a ≤ z .address)
 rising-last a b [] z o r = ((o, tt), r .0)
 rising-last a b (x ∷ xs) z o r =
     let t = rising-last (suc (x .address)) b xs z o (r .1) in let l = t .1 in ((omega arith, t .0), omega (arith, r .0))
-
--- ---- what is sunk
-
-length-sink : (i : ℕ) (t : List Entry) (y : Entry) → length (sink i t y) ≡ length t
-unfolding sink
-length-sink zero t y = length-set t 0 y
-length-sink (suc i) t y = go (ltb (getD t i noEntry .address) (y .address)) (length-sink i (set t (suc i) (getD t i noEntry)) y)
-  where
-    go : (b : Bool) → length (sink i (set t (suc i) (getD t i noEntry)) y) ≡ length (set t (suc i) (getD t i noEntry))
-        → length {A = Entry} (elim b as (λ _. List Entry) [ true ↦ set t (suc i) y | false ↦ sink i (set t (suc i) (getD t i noEntry)) y ])
-        ≡ length t
-    go true q = length-set t (suc i) y
-    go false q = q ∙ length-set t (suc i) (getD t i noEntry)
-
-sink-above : (i j : ℕ) (t : List Entry) (y : Entry) → i < j → getD (sink i t y) j noEntry ≡ getD t j noEntry
-unfolding sink
-sink-above zero j t y o = getD-set-other t 0 j y noEntry (λ z. omega arith)
-sink-above (suc i) j t y o =
-    go (ltb (getD t i noEntry .address) (y .address)) (sink-above i j (set t (suc i) (getD t i noEntry)) y (omega arith))
-  where
-    go : (b : Bool) → getD (sink i (set t (suc i) (getD t i noEntry)) y) j noEntry ≡ getD (set t (suc i) (getD t i noEntry)) j noEntry
-        → getD {A = Entry} (elim b as (λ _. List Entry) [ true ↦ set t (suc i) y | false ↦ sink i (set t (suc i) (getD t i noEntry)) y ]) j
-        noEntry ≡ getD t j noEntry
-    go true q = getD-set-other t (suc i) j y noEntry (λ z. omega arith)
-    go false q = q ∙ getD-set-other t (suc i) j (getD t i noEntry) noEntry (λ z. omega arith)
-
--- an entry sunk into a table whose first n are rising is put in its place among them
-pub sink-take : (n : ℕ) (t : List Entry) (y : Entry) → n < length t → Rising 0 (take n t) → take (suc n) (sink n t y) ≡ insertE y (take n t)
-unfolding sink insertE
-sink-take zero t y l r = take-suc-set t 0 y l
-sink-take (suc i) t y l r =
-    let z : Entry = getD t i noEntry in
-    let split : take (suc i) t ≡ take i t ++ (z ∷ []) = take-suc t i noEntry (omega arith) in
-    let rs : Rising 0 (take i t ++ (z ∷ [])) = subst (λ (es : List Entry). Rising 0 es) split r in
-    ⊎-elim
-    (λ b.
-    let o = ltb-true (z .address) (y .address) b in
-    ap (λ (s : List Entry). take (suc (suc i)) s) (sink-stop (suc i) i t y (omega arith) o) ∙ take-suc-set t (suc i) y l
-    ∙ sym (insert-end y (take (suc i) t)
-    (subst (λ (es : List Entry). Under (y .address) es) (sym split) (rising-last 0 (y .address) (take i t) z o rs .0))))
-    (λ b.
-    let o = ltb-false (z .address) (y .address) b in
-    let u : List Entry = set t (suc i) z in
-    let len : length u ≡ length t = length-set t (suc i) z in
-    let same : take i u ≡ take i t = take-set-le i t (suc i) z (omega arith) in
-    ap (λ (s : List Entry). take (suc (suc i)) s) (sym (sink-turn (suc i) i t y z (omega arith) refl o))
-    ∙ take-suc (sink i u y) (suc i) noEntry (rw (length-sink i u y) (omega arith))
-    ∙ ap₂ (λ (es : List Entry) (x : Entry). es ++ (x ∷ []))
-    (sink-take i u y (omega arith) (subst (λ (es : List Entry). Rising 0 es) (sym same) (rising-init 0 (take i t) z rs))
-    ∙ ap (insertE y) same)
-    (sink-above i (suc i) u y (omega arith) ∙ getD-set-same t (suc i) z noEntry l)
-    ∙ sym (insert-snoc y z (take i t) o) ∙ ap (insertE y) (sym split))
-    (either-way (ltb (z .address) (y .address)))
 
 -- ---- members
 
@@ -171,11 +73,6 @@ rising-insert a y (x ∷ xs) o r n =
     subst (λ (s : List Entry). Rising a s) (sym (insert-here y x xs k)) (o, (omega arith, r .1)))
     (either-way (ltb (x .address) (y .address)))
 
-pub rising-in : (a : ℕ) (es : List Entry) (x : Entry) → Rising a es → InE x es → a ≤ x .address
-rising-in a [] x r n = absurd n
-rising-in a (y ∷ ys) x r (inl q) = rw q (r .0)
-rising-in a (y ∷ ys) x r (inr n) = let k = rising-in (suc (y .address)) ys x (r .1) n in omega (arith, r .0)
-
 -- rising entries are known by their members
 pub rising-same : (a b : ℕ) (es fs : List Entry) → Rising a es → Rising b fs → ((x : Entry) → InE x es → InE x fs)
     → ((x : Entry) → InE x fs → InE x es) → es ≡ fs
@@ -193,110 +90,7 @@ rising-same a b (x ∷ xs) (y ∷ ys) r s f gs =
     (λ z n. ⊎-elim (λ q. absurd (let k = rising-in (suc (y .address)) ys z (s .1) n in
     let e : z .address ≡ x .address = ap (λ (w : Entry). w .address) q in omega arith)) (λ i. i) (gs z (inr n))))
 
--- ---- the kept entries by place
-
-unfoldable pub gathered : ℕ → List ℕ → Geometry → ℕ → List Entry
-gathered zero w g k = []
-gathered (suc p) w g k = elim (keeps w g k p) [ true ↦ insertE (entryAt w g p) (gathered p w g k) | false ↦ gathered p w g k ]
-
-pub gathered-take : (p : ℕ) (w : List ℕ) (g : Geometry) (k : ℕ) → keeps w g k p ≡ true
-    → gathered (suc p) w g k ≡ insertE (entryAt w g p) (gathered p w g k)
-unfolding gathered
-gathered-take p w g k q =
-    ap (λ (t : Bool). elim t as (λ _. List Entry) [ true ↦ insertE (entryAt w g p) (gathered p w g k) | false ↦ gathered p w g k ]) q
-
-pub gathered-skip : (p : ℕ) (w : List ℕ) (g : Geometry) (k : ℕ) → keeps w g k p ≡ false → gathered (suc p) w g k ≡ gathered p w g k
-unfolding gathered
-gathered-skip p w g k q =
-    ap (λ (t : Bool). elim t as (λ _. List Entry) [ true ↦ insertE (entryAt w g p) (gathered p w g k) | false ↦ gathered p w g k ]) q
-
--- place q is kept
-record Kept (w : List ℕ) (g : Geometry) (k q : ℕ) : Type 0 where
-  low : addressAt w (g .h) q / g .d < g .s
-  stripe : addressAt w (g .h) q / g .d ≢ k
-  first : lookup w g (addressAt w (g .h) q) ≡ q
-
-kept : (w : List ℕ) (g : Geometry) (k q : ℕ) → keeps w g k q ≡ true → Kept w g k q
-unfolding keeps
-kept w g k q t = go (eqb (addressAt w (g .h) q / g .d) k) refl (both .1)
-  where
-    both : (ltb (addressAt w (g .h) q / g .d) (g .s) ≡ true)
-        × ((not (eqb (addressAt w (g .h) q / g .d) k) && eqb (lookup w g (addressAt w (g .h) q)) q) ≡ true)
-    both =
-        and-both (ltb (addressAt w (g .h) q / g .d) (g .s)) (not (eqb (addressAt w (g .h) q / g .d) k) && eqb (lookup w g (addressAt w (g .h) q)) q) t
-
-    go : (b : Bool) → eqb (addressAt w (g .h) q / g .d) k ≡ b → (not b && eqb (lookup w g (addressAt w (g .h) q)) q) ≡ true → Kept w g k q
-    go true e z = absurd (not-so (sym z))
-    go false e z =
-        record {
-          low = ltb-true (addressAt w (g .h) q / g .d) (g .s) (both .0);
-          stripe = eqb-false (addressAt w (g .h) q / g .d) k e;
-          first = eqb-true (lookup w g (addressAt w (g .h) q)) q z;
-        }
-
-keeps-true : (w : List ℕ) (g : Geometry) (k q : ℕ) → Kept w g k q → keeps w g k q ≡ true
-unfolding keeps
-keeps-true w g k q t =
-    ap₂ _&&_ (lt-ltb (addressAt w (g .h) q / g .d) (g .s) (t .low))
-    (ap₂ (λ (b c : Bool). not b && c) (ne-eqb (addressAt w (g .h) q / g .d) k (t .stripe))
-    (eq-eqb (lookup w g (addressAt w (g .h) q)) q (t .first)))
-
-record From (w : List ℕ) (g : Geometry) (k p : ℕ) (x : Entry) : Type 0 where
-  place : ℕ
-  under : place < p
-  kept : Kept w g k place
-  is : x ≡ entryAt w g place
-
-gathered-from : (p : ℕ) (w : List ℕ) (g : Geometry) (k : ℕ) (x : Entry) → InE x (gathered p w g k) → From w g k p x
-unfolding gathered
-gathered-from zero w g k x n = absurd n
-gathered-from (suc p) w g k x n =
-    ⊎-elim
-    (λ t.
-    ⊎-elim
-    (λ q. record { place = p; under = omega arith; kept = kept w g k p t; is = q })
-    (λ q. let r = gathered-from p w g k x q in
-    record { place = r .place; under = let u : r .place < p = r .under in omega arith; kept = r .kept; is = r .is })
-    (in-insert (entryAt w g p) x (gathered p w g k) (subst (λ (s : List Entry). InE x s) (gathered-take p w g k t) n)))
-    (λ t. let r = gathered-from p w g k x (subst (λ (s : List Entry). InE x s) (gathered-skip p w g k t) n) in
-    record { place = r .place; under = let u : r .place < p = r .under in omega arith; kept = r .kept; is = r .is })
-    (either-way (keeps w g k p))
-
-gathered-has : (p : ℕ) (w : List ℕ) (g : Geometry) (k q : ℕ) → q < p → Kept w g k q → InE (entryAt w g q) (gathered p w g k)
-gathered-has zero w g k q o t = absurd (omega arith)
-gathered-has (suc p) w g k q o t =
-    ⊎-elim
-    (λ z. let e : q ≡ p = eqb-true q p z in
-    subst (λ (s : List Entry). InE (entryAt w g q) s)
-    (sym (gathered-take p w g k (subst (λ (j : ℕ). keeps w g k j ≡ true) e (keeps-true w g k q t))))
-    (insert-in (entryAt w g p) (entryAt w g q) (gathered p w g k) (inl (ap (λ (j : ℕ). entryAt w g j) e))))
-    (λ z. let e : q ≢ p = eqb-false q p z in
-    let r = gathered-has p w g k q (omega arith) t in
-    ⊎-elim
-    (λ y. subst (λ (s : List Entry). InE (entryAt w g q) s) (sym (gathered-take p w g k y))
-    (insert-in (entryAt w g p) (entryAt w g q) (gathered p w g k) (inr r)))
-    (λ y. subst (λ (s : List Entry). InE (entryAt w g q) s) (sym (gathered-skip p w g k y)) r)
-    (either-way (keeps w g k p)))
-    (either-way (eqb q p))
-
-pub gathered-rising : (p : ℕ) (w : List ℕ) (g : Geometry) (k : ℕ) → Rising 0 (gathered p w g k)
-unfolding gathered
-gathered-rising zero w g k = tt
-gathered-rising (suc p) w g k =
-    let r = gathered-rising p w g k in
-    ⊎-elim
-    (λ t. subst (λ (s : List Entry). Rising 0 s) (sym (gathered-take p w g k t))
-    (rising-insert 0 (entryAt w g p) (gathered p w g k) (omega arith) r
-    (λ x n e.
-    let f = gathered-from p w g k x n in
-    let u : f .place < p = f .under in
-    let s : addressAt w (g .h) (f .place) ≡ addressAt w (g .h) p = sym (ap (λ (y : Entry). y .address) (f .is)) ∙ e in
-    let q : f .place ≡ p = sym (f .kept .first) ∙ ap (λ (j : ℕ). lookup w g j) s ∙ kept w g k p t .first in
-    omega arith)))
-    (λ t. subst (λ (s : List Entry). Rising 0 s) (sym (gathered-skip p w g k t)) r)
-    (either-way (keeps w g k p))
-
--- ---- the entries by address
+-- ---- the entries of a stripe dropped
 
 drop-out : (d k : ℕ) (x : Entry) (xs : List Entry) → x .address / d ≡ k → dropStripe d k (x ∷ xs) ≡ dropStripe d k xs
 unfolding dropStripe
@@ -343,143 +137,54 @@ drop-rising a d k (x ∷ xs) r =
     (λ t. subst (λ (v : List Entry). Rising a v) (sym (drop-keep d k x xs (eqb-false (x .address / d) k t))) (r .0, s))
     (either-way (eqb (x .address / d) k))
 
-pub record At (w : List ℕ) (g : Geometry) (a b : ℕ) (x : Entry) : Type 0 where
-  pub address : ℕ
-  pub low : a ≤ address
-  pub high : address < b
-  pub listed : lookup w g address < g .e
-  pub is : x ≡ entryAt w g (lookup w g address)
+-- where no entry is of the stripe, all are kept
+pub drop-none : (d k : ℕ) (es : List Entry) → ((x : Entry) → InE x es → x .address / d ≢ k) → dropStripe d k es ≡ es
+unfolding dropStripe
+drop-none d k [] f = refl
+drop-none d k (x ∷ xs) f =
+    drop-keep d k x xs (f x (inl refl)) ∙ ap (λ (es : List Entry). x ∷ es) (drop-none d k xs (λ y i. f y (inr i)))
 
-pub entries-at : (f : ℕ) (w : List ℕ) (g : Geometry) (a : ℕ) (x : Entry) → InE x (entriesFrom f w g a) → At w g a (a + f) x
-unfolding entriesFrom
-entries-at zero w g a x n = absurd n
-entries-at (suc f) w g a x n =
-    ⊎-elim
-    (λ t. let o = ltb-true (lookup w g a) (g .e) t in
-    ⊎-elim (λ q. record { address = a; low = omega arith; high = omega arith; listed = o; is = q }) (λ q. on (entries-at f w g (a + 1) x q))
-    (subst (λ (s : List Entry). InE x s) (entries-hit f w g a o) n))
-    (λ t. on (entries-at f w g (a + 1) x
-    (subst (λ (s : List Entry). InE x s) (entries-step f w g a (ltb-false (lookup w g a) (g .e) t)) n)))
-    (either-way (ltb (lookup w g a) (g .e)))
-  where
-    on : At w g (a + 1) (a + 1 + f) x → At w g a (a + suc f) x
-    on r =
-        record {
-          address = r .address;
-          low = let l : a + 1 ≤ r .address = r .low in
-              omega arith;
-          high = let l : r .address < a + 1 + f = r .high in omega arith;
-          listed = r .listed;
-          is = r .is;
-        }
+-- ---- the turns of close_up: the m entries kept, then what is left of the first n places from place p on, are the whole
 
-pub entries-has : (f : ℕ) (w : List ℕ) (g : Geometry) (a b : ℕ) → a ≤ b → b < a + f → lookup w g b < g .e
-    → InE (entryAt w g (lookup w g b)) (entriesFrom f w g a)
-entries-has zero w g a b l u o = absurd (omega arith)
-entries-has (suc f) w g a b l u o =
-    ⊎-elim
-    (λ t. let q : a ≡ b = eqb-true a b t in
-    subst (λ (s : List Entry). InE (entryAt w g (lookup w g b)) s) (sym (entries-hit f w g a (rw q o)))
-    (inl (ap (λ (j : ℕ). entryAt w g (lookup w g j)) (sym q))))
-    (λ t. let q : a ≢ b = eqb-false a b t in
-    let r = entries-has f w g (a + 1) b (omega arith) (omega arith) o in
-    ⊎-elim
-    (λ y. subst (λ (s : List Entry). InE (entryAt w g (lookup w g b)) s) (sym (entries-hit f w g a (ltb-true (lookup w g a) (g .e) y)))
-    (inr r))
-    (λ y. subst (λ (s : List Entry). InE (entryAt w g (lookup w g b)) s) (sym (entries-step f w g a (ltb-false (lookup w g a) (g .e) y))) r)
-    (either-way (ltb (lookup w g a) (g .e))))
-    (either-way (eqb a b))
+module _ (d k n : ℕ) (r : List Entry) where
+  abbrev pub Closed : ℕ → ℕ → List Entry → Type 0
+  Closed m p t = take m t ++ dropStripe d k (take (n - p) (drop p t)) ≡ r
 
-entries-up : (f : ℕ) (w : List ℕ) (g : Geometry) (a : ℕ) → ((b : ℕ) → lookup w g b < g .e → addressAt w (g .h) (lookup w g b) ≡ b)
-    → Rising a (entriesFrom f w g a)
-unfolding entriesFrom
-entries-up zero w g a gs = tt
-entries-up (suc f) w g a gs =
-    let r = entries-up f w g (a + 1) gs in
-    ⊎-elim
-    (λ t. let o = ltb-true (lookup w g a) (g .e) t in let q : addressAt w (g .h) (lookup w g a) ≡ a = gs a o in
-    subst (λ (s : List Entry). Rising a s) (sym (entries-hit f w g a o))
-    (omega arith, rising-less (a + 1) (suc (addressAt w (g .h) (lookup w g a))) (entriesFrom f w g (a + 1)) (omega arith) r))
-    (λ t. subst (λ (s : List Entry). Rising a s) (sym (entries-step f w g a (ltb-false (lookup w g a) (g .e) t)))
-    (rising-less (a + 1) a (entriesFrom f w g (a + 1)) (omega arith) r))
-    (either-way (ltb (lookup w g a) (g .e)))
+  one : (p : ℕ) (t : List Entry) (x : Entry) → p < n → p < length t → x ≡ getD t p noEntry
+      → take (n - p) (drop p t) ≡ x ∷ take (n - (p + 1)) (drop (p + 1) t)
+  one p t x o l q =
+      let s : n - p ≡ suc (n - (p + 1)) = omega arith in
+      let at : drop p t ≡ x ∷ drop (p + 1) t = rw add-one (drop-cons t p noEntry l ∙ ap (λ (y : Entry). y ∷ drop (suc p) t) (sym q)) in
+      ap₂ (λ (i : ℕ) (es : List Entry). take i es) s at
 
-module _ (w : List ℕ) (g : Geometry) (next listed : ℕ) (hpos : 0 < g .h) (dpos : 0 < g .d) (small : g .e ≤ 4096)
-    (v : valid w g next listed ≡ true) where
-  pub entries-rising : Rising 0 (entries w g)
-  unfolding entries
-  entries-rising = entries-up (g .d * g .s) w g 0 (found-address w g next listed hpos dpos small v)
+  pub close-keep : (m p : ℕ) (x : Entry) (t u : List Entry) → m ≤ p → p < n → p < length t → x ≡ getD t p noEntry → x .address / d ≢ k
+      → u ≡ set t m x → Closed m p t → Closed (m + 1) (p + 1) u
+  close-keep m p x t u mp o l q v e inv =
+      let rest : drop (p + 1) u ≡ drop (p + 1) t = ap (drop (p + 1)) e ∙ drop-set-lt (p + 1) t m x (omega arith) in
+      let left : List Entry = take (n - (p + 1)) (drop (p + 1) t) in
+      let all : dropStripe d k (take (n - p) (drop p t)) ≡ x ∷ dropStripe d k left =
+      ap (dropStripe d k) (one p t x o l q) ∙ drop-keep d k x left v in
+      let more : take (m + 1) u ≡ take m t ++ (x ∷ []) =
+      ap (λ (j : ℕ). take j u) (add-one m) ∙ ap (take (suc m)) e ∙ take-suc-set t m x (omega arith) in
+      ap₂ (λ (es fs : List Entry). es ++ dropStripe d k (take (n - (p + 1)) fs)) more rest
+      ∙ append-assoc (take m t) (x ∷ []) (dropStripe d k left)
+      ∙ ap (λ (es : List Entry). take m t ++ es) (sym all) ∙ inv
 
-  -- gathered by place, or by address: the same
-  pub gathered-all : (k : ℕ) → gathered (g .e) w g k ≡ dropStripe (g .d) k (entries w g)
-  unfolding entries
-  gathered-all k =
-      rising-same 0 0 (gathered (g .e) w g k) (dropStripe (g .d) k (entries w g)) (gathered-rising (g .e) w g k)
-      (drop-rising 0 (g .d) k (entries w g) entries-rising)
-      (λ x n.
-      let f = gathered-from (g .e) w g k x n in
-      let b : ℕ = addressAt w (g .h) (f .place) in
-      let o : lookup w g b < g .e = rw (f .kept .first) (f .under) in
-      let low : addressAt w (g .h) (lookup w g b) / g .d < g .s = found-sound w g next listed hpos dpos small v b o .entry-is .low in
-      let lim : b < g .s * g .d = div-lt-iff-lt-mul dpos .0 (rw (f .kept .first) at low) in
-      let lim2 : b < 0 + g .d * g .s = rw (zero-add (g .d * g .s), mul-comm (g .d) (g .s)) lim in
-      let is : x ≡ entryAt w g (lookup w g b) = f .is ∙ ap (λ (j : ℕ). entryAt w g j) (sym (f .kept .first)) in
-      in-drop (g .d) k x (entriesFrom (g .d * g .s) w g 0)
-      (subst (λ (y : Entry). InE y (entriesFrom (g .d * g .s) w g 0)) (sym is) (entries-has (g .d * g .s) w g 0 b (omega arith) lim2 o))
-      (λ e. f .kept .stripe (ap (λ (y : Entry). y .address / g .d) (sym (f .is)) ∙ e)))
-      (λ x n.
-      let r = drop-in (g .d) k x (entriesFrom (g .d * g .s) w g 0) n in
-      let t = entries-at (g .d * g .s) w g 0 x (r .0) in
-      let q : addressAt w (g .h) (lookup w g (t .address)) ≡ t .address =
-      found-address w g next listed hpos dpos small v (t .address) (t .listed) in
-      subst (λ (y : Entry). InE y (gathered (g .e) w g k)) (sym (t .is))
-      (gathered-has (g .e) w g k (lookup w g (t .address)) (t .listed)
-      (record { low = found-sound w g next listed hpos dpos small v (t .address) (t .listed) .entry-is .low; stripe = λ e. r .1 (ap (λ (y : Entry). y .address / g .d) (t .is) ∙ e); first = ap (λ (j : ℕ). lookup w g j) q })))
+  pub close-skip : (m p : ℕ) (x : Entry) (t : List Entry) → p < n → p < length t → x ≡ getD t p noEntry → x .address / d ≡ k
+      → Closed m p t → Closed m (p + 1) t
+  close-skip m p x t o l q v inv =
+      ap (λ (es : List Entry). take m t ++ es)
+      (sym (ap (dropStripe d k) (one p t x o l q) ∙ drop-out d k x (take (n - (p + 1)) (drop (p + 1) t)) v))
+      ∙ inv
 
--- ---- the turns of gather
+  pub close-end : (m p : ℕ) (t : List Entry) → p ≡ n → Closed m p t → take m t ≡ r
+  unfolding dropStripe
+  close-end m p t z inv =
+      let s : n - p ≡ zero = omega arith in
+      sym (append-nil (take m t)) ∙ ap (λ (i : ℕ). take m t ++ dropStripe d k (take i (drop p t))) (sym s) ∙ inv
 
-pub gather-take : (w : List ℕ) (g : Geometry) (k p n : ℕ) (t u : List Entry) (b : Bool) → b ≡ keeps w g k p → b ≡ true → n < length t
-    → take n t ≡ gathered p w g k → u ≡ sink n t (entryAt w g p) → take (n + 1) u ≡ gathered (p + 1) w g k
-gather-take w g k p n t u b q z l gs e =
-    let s : n + 1 ≡ suc n = omega arith in
-    let s2 : p + 1 ≡ suc p = omega arith in
-    rw (s, s2, e) (sink-take n t (entryAt w g p) l (subst (λ (r : List Entry). Rising 0 r) (sym gs) (gathered-rising p w g k))
-    ∙ ap (insertE (entryAt w g p)) gs ∙ sym (gathered-take p w g k (sym q ∙ z)))
-
-pub gather-skip : (w : List ℕ) (g : Geometry) (k p n : ℕ) (t : List Entry) (b : Bool) → b ≡ keeps w g k p → b ≡ false
-    → take n t ≡ gathered p w g k → take n t ≡ gathered (p + 1) w g k
-gather-skip w g k p n t b q z gs = let s2 : p + 1 ≡ suc p = omega arith in rw s2 (gs ∙ sym (gathered-skip p w g k (sym q ∙ z)))
-
-pub gather-start : (t : List Entry) (w : List ℕ) (g : Geometry) (k : ℕ) → take 0 t ≡ gathered 0 w g k
-unfolding gathered
-gather-start t w g k = refl
-
-pub sunk-entry : (w : List ℕ) (h p n a o c : ℕ) (t u : List Entry) → a ≡ addressAt w h p → o ≡ oriAt w h p → c ≡ curAt w h p
-    → u ≡ sink n t (entry a o c) → u ≡ sink n t (entryIn w h p)
-sunk-entry w h p n a o c t u x y z q = q ∙ ap (sink n t) (entry-eq (entry a o c) (entryIn w h p) x y z)
-
--- ---- the tests of keeps_place
-
-module _ (w : List ℕ) (g : Geometry) (k p a : ℕ) (x : a ≡ addressAt w (g .h) p) where
-  abbrev tested : ℕ → Bool
-  tested b = ltb (b / g .d) (g .s) && (not (eqb (b / g .d) k) && eqb (lookup w g b) p)
-
-  keeps-at : keeps w g k p ≡ (ltb (a / g .d) (g .s) && (not (eqb (a / g .d) k) && eqb (lookup w g a) p))
-  unfolding keeps
-  keeps-at = ap tested (sym x)
-
-  pub keeps-far : g .s ≤ a / g .d → keeps w g k p ≡ false
-  keeps-far q = keeps-at ∙ ap (λ (t : Bool). t && (not (eqb (a / g .d) k) && eqb (lookup w g a) p)) (le-ltb (a / g .d) (g .s) q)
-
-  pub keeps-no : a / g .d ≡ k → keeps w g k p ≡ false
-  keeps-no q =
-      keeps-at ∙ ap (λ (t : Bool). ltb (a / g .d) (g .s) && (not t && eqb (lookup w g a) p)) (eq-eqb (a / g .d) k q)
-      ∙ and-false (ltb (a / g .d) (g .s))
-
-  pub keeps-by : (r : ℕ) → a / g .d < g .s → a / g .d ≢ k → r ≡ lookup w g a → keeps w g k p ≡ eqb r p
-  keeps-by r l q y =
-      keeps-at ∙ ap₂ (λ (t u : Bool). t && (not u && eqb (lookup w g a) p)) (lt-ltb (a / g .d) (g .s) l) (ne-eqb (a / g .d) k q)
-      ∙ ap (λ (j : ℕ). eqb j p) (sym y)
+pub close-start : (d k n : ℕ) (t : List Entry) → Closed d k n (dropStripe d k (take n t)) 0 0 t
+close-start d k n t = ap (λ (i : ℕ). dropStripe d k (take i t)) (sub-zero n)
 
 -- ---- a stripe's new entries put among those of the other stripes
 
@@ -541,30 +246,138 @@ merged-rising (suc j) d k c x es l s r f =
     let z : at3 x (i .index) .address ≡ at3 x j .address = ap (λ (v : Entry). v .address) (sym (i .is)) ∙ e in omega arith)
     (in-merged j x es y n))
 
-sunk-suc : (j n : ℕ) (t : List Entry) (y : List ℕ) → sunk (suc j) n t y ≡ sink (n + j) (sunk j n t y) (at3 y j)
-unfolding sunk
-sunk-suc j n t y = refl
+-- ---- a gap opened for stripe k, and filled
 
-pub sunk-start : (n : ℕ) (t : List Entry) (y : List ℕ) → t ≡ sunk 0 n t y
-unfolding sunk
-sunk-start n t y = refl
+pub opening-start : (d k c n : ℕ) (t : List Entry) → Opening d k c n t t n
+opening-start d k c n t =
+    let z : n - n ≡ zero = omega arith in
+    record {
+      within = omega arith;
+      parts = ap (λ (m : ℕ). take n t ++ take m (drop (n + c) t)) z ∙ append-nil (take n t);
+      higher = subst (λ (m : ℕ). NotBelow d k (take m (drop (n + c) t))) (sym z) tt;
+    }
 
-pub sunk-turn : (j n : ℕ) (t u v : List Entry) (y : List ℕ) → u ≡ sunk j n t y → v ≡ sink (n + j) u (at3 y j) → v ≡ sunk (j + 1) n t y
-sunk-turn j n t u v y p q =
-    let b : j + 1 ≡ suc j = omega arith in rw b (q ∙ ap (λ (r : List Entry). sink (n + j) r (at3 y j)) p ∙ sym (sunk-suc j n t y))
+pub opening-turn : (d k c n i : ℕ) (t u v : List Entry) (x : Entry) → 0 < i → n + c ≤ length u → x ≡ getD u (i - 1) noEntry → k ≤ x .address / d
+    → v ≡ set u (i - 1 + c) x → Opening d k c n t u i → Opening d k c n t v (i - 1)
+opening-turn d k c n i t u v x o l q h e r =
+    let w : i ≤ n = r .within in
+    let hi : List Entry = take (n - i) (drop (i + c) u) in
+    let same : take (i - 1) v ≡ take (i - 1) u = ap (take (i - 1)) e ∙ take-set-le (i - 1) u (i - 1 + c) x (omega arith) in
+    let lv : length v ≡ length u = ap length e ∙ length-set u (i - 1 + c) x in
+    let s1 : suc (i - 1 + c) ≡ i + c = omega arith in
+    let back : drop (i - 1 + c) v ≡ x ∷ drop (i + c) u =
+    drop-cons v (i - 1 + c) noEntry (omega arith)
+    ∙ ap₂ (λ (y : Entry) (ys : List Entry). y ∷ ys)
+    (ap (λ (z : List Entry). getD z (i - 1 + c) noEntry) e ∙ getD-set-same u (i - 1 + c) x noEntry (omega arith))
+    (ap (drop (suc (i - 1 + c))) e ∙ drop-set-lt (suc (i - 1 + c)) u (i - 1 + c) x (omega arith) ∙ ap (λ (m : ℕ). drop m u) s1) in
+    let s2 : n - (i - 1) ≡ suc (n - i) = omega arith in
+    let behind : take (n - (i - 1)) (drop (i - 1 + c) v) ≡ x ∷ take (n - i) (drop (i + c) u) =
+    ap₂ (λ (m : ℕ) (es : List Entry). take m es) s2 back in
+    let s3 : suc (i - 1) ≡ i = omega arith in
+    let below : take i u ≡ take (i - 1) u ++ (x ∷ []) =
+    ap (λ (m : ℕ). take m u) (sym s3) ∙ take-suc u (i - 1) noEntry (omega arith) ∙ ap (λ (y : Entry). take (i - 1) u ++ (y ∷ [])) (sym q) in
+    record {
+      within = omega arith;
+      parts = ap₂ (λ (es fs : List Entry). es ++ fs) same behind ∙ sym (append-assoc (take (i - 1) u) (x ∷ []) hi)
+          ∙ ap (λ (es : List Entry). es ++ hi) (sym below) ∙ r .parts;
+      higher = subst (λ (es : List Entry). NotBelow d k es) (sym behind) (h, r .higher);
+    }
 
-length-sunk : (j n : ℕ) (t : List Entry) (y : List ℕ) → length (sunk j n t y) ≡ length t
-unfolding sunk
-length-sunk zero n t y = refl
-length-sunk (suc j) n t y = length-sink (n + j) (sunk j n t y) (at3 y j) ∙ length-sunk j n t y
+-- the slice with one entry more
+held-snoc : (j : ℕ) (y : List ℕ) → held (suc j) 0 y ≡ held j 0 y ++ (at3 y j ∷ [])
+held-snoc j y = table-snoc j 0 (at3 y) ∙ ap (λ (k : ℕ). held j 0 y ++ (at3 y k ∷ [])) (zero-add j)
 
-pub sunk-merged : (j n d k c : ℕ) (y : List ℕ) (t : List Entry) (es : List Entry) → j ≤ c → Segment d k c y → Rising 0 es
-    → ((z : Entry) → InE z es → z .address / d ≢ k) → n + c ≤ length t → take n t ≡ es → take (n + j) (sunk j n t y) ≡ merged j y es
-unfolding sunk merged
-sunk-merged zero n d k c y t es o s r f l q = rw (add-zero n) q
-sunk-merged (suc j) n d k c y t es o s r f l q =
-    let ih : take (n + j) (sunk j n t y) ≡ merged j y es = sunk-merged j n d k c y t es (omega arith) s r f l q in
-    let a : n + suc j ≡ suc (n + j) = omega arith in
-    let len : length (sunk j n t y) ≡ length t = length-sunk j n t y in
-    rw a (sink-take (n + j) (sunk j n t y) (at3 y j) (omega arith)
-    (subst (λ (v : List Entry). Rising 0 v) (sym ih) (merged-rising j d k c y es (omega arith) s r f)) ∙ ap (insertE (at3 y j)) ih)
+pub filled-start : (i : ℕ) (t : List Entry) (y : List ℕ) → Filled i 0 t t y
+unfolding table
+filled-start i t y = record { front = ap (λ (m : ℕ). take m t) (add-zero i) ∙ sym (append-nil (take i t)); back = λ c o. refl }
+
+pub filled-turn : (i j : ℕ) (t u v : List Entry) (y : List ℕ) → i + j < length u → v ≡ set u (i + j) (at3 y j) → Filled i j t u y
+    → Filled i (j + 1) t v y
+filled-turn i j t u v y l e r =
+    let s : i + (j + 1) ≡ suc (i + j) = omega arith in
+    let s1 : j + 1 ≡ suc j = omega arith in
+    record {
+      front = ap (λ (m : ℕ). take m v) s ∙ ap (take (suc (i + j))) e ∙ take-suc-set u (i + j) (at3 y j) l
+          ∙ ap (λ (es : List Entry). es ++ (at3 y j ∷ [])) (r .front) ∙ append-assoc (take i t) (held j 0 y) (at3 y j ∷ [])
+          ∙ ap (λ (es : List Entry). take i t ++ es) (sym (held-snoc j y)) ∙ ap (λ (m : ℕ). take i t ++ held m 0 y) (sym s1);
+      back = λ c o. ap (drop (i + c)) e ∙ drop-set-lt (i + c) u (i + j) (at3 y j) (omega arith) ∙ r .back c (omega arith);
+    }
+
+under-both : (b : ℕ) (xs ys : List Entry) → Under b xs → Under b ys → Under b (xs ++ ys)
+under-both b [] ys u v = v
+under-both b (x ∷ xs) ys u v = (u .0, under-both b xs ys (u .1) v)
+
+insert-over : (y : Entry) (xs zs : List Entry) → Under (y .address) xs → insertE y (xs ++ zs) ≡ xs ++ insertE y zs
+insert-over y [] zs u = refl
+insert-over y (x ∷ xs) zs u = insert-past y x (xs ++ zs) (u .0) ∙ ap (λ (r : List Entry). x ∷ r) (insert-over y xs zs (u .1))
+
+rising-left : (a : ℕ) (xs ys : List Entry) → Rising a (xs ++ ys) → Rising a xs
+rising-left a [] ys r = tt
+rising-left a (x ∷ xs) ys r = (r .0, rising-left (suc (x .address)) xs ys (r .1))
+
+in-behind : (x : Entry) (xs ys : List Entry) → InE x ys → InE x (xs ++ ys)
+in-behind x [] ys n = n
+in-behind x (z ∷ xs) ys n = inr (in-behind x xs ys n)
+
+module _ (d k c : ℕ) (y : List ℕ) (dpos : 0 < d) (sg : Segment d k c y) (lo hi : List Entry)
+    (low : (j : ℕ) → j < c → Under (at3 y j .address) lo) (high : NotBelow d k hi) (none : (x : Entry) → InE x hi → x .address / d ≢ k) where
+  held-under : (j m : ℕ) → m ≤ j → j < c → Under (at3 y j .address) (held m 0 y)
+  unfolding table
+  held-under j zero o l = tt
+  held-under j (suc m) o l =
+      subst (λ (es : List Entry). Under (at3 y j .address) es) (sym (held-snoc m y))
+      (under-both (at3 y j .address) (held m 0 y) (at3 y m ∷ []) (held-under j m (omega arith) l) (sg .up m j (omega arith) l, tt))
+
+  insert-first : (j : ℕ) → j < c → (hs : List Entry) → NotBelow d k hs → ((x : Entry) → InE x hs → x .address / d ≢ k)
+      → insertE (at3 y j) hs ≡ at3 y j ∷ hs
+  unfolding insertE
+  insert-first j o [] h f = refl
+  insert-first j o (z ∷ zs) h f =
+      let a : at3 y j .address / d ≡ k = sg .stripe j o in
+      let b : z .address / d ≢ k = f z (inl refl) in
+      let e : k ≤ z .address / d = h .0 in
+      insert-here (at3 y j) z zs (stripe-less (at3 y j .address) (z .address) d dpos (omega arith))
+
+  merged-between : (j : ℕ) → j ≤ c → merged j y (lo ++ hi) ≡ (lo ++ held j 0 y) ++ hi
+  unfolding merged table
+  merged-between zero o = ap (λ (es : List Entry). es ++ hi) (sym (append-nil lo))
+  merged-between (suc j) o =
+      ap (insertE (at3 y j)) (merged-between j (omega arith))
+      ∙ insert-over (at3 y j) (lo ++ held j 0 y) hi
+      (under-both (at3 y j .address) lo (held j 0 y) (low j (omega arith)) (held-under j j (omega arith) (omega arith)))
+      ∙ ap (λ (es : List Entry). (lo ++ held j 0 y) ++ es) (insert-first j (omega arith) hi high none)
+      ∙ sym (append-assoc (lo ++ held j 0 y) (at3 y j ∷ []) hi)
+      ∙ ap (λ (es : List Entry). es ++ hi) (append-assoc lo (held j 0 y) (at3 y j ∷ []) ∙ ap (λ (es : List Entry). lo ++ es) (sym (held-snoc j y)))
+
+-- a gap opened and filled is the slice's entries put among the rising ones
+pub spread-merged : (d k c n i : ℕ) (y : List ℕ) (t u v es : List Entry) → 0 < d → Segment d k c y → Rising 0 es
+    → ((x : Entry) → InE x es → x .address / d ≢ k) → n + c ≤ length u → take n t ≡ es → Opened d k c n t u i → Filled i c u v y
+    → take (n + c) v ≡ merged c y es
+spread-merged d k c n i y t u v es dpos sg r f l q op fl =
+    let w : i ≤ n = op .opening .within in
+    let lo : List Entry = take i u in
+    let hi : List Entry = take (n - i) (drop (i + c) u) in
+    let all : take i u ++ take (n - i) (drop (i + c) u) ≡ es = op .opening .parts ∙ q in
+    let up : Rising 0 (take i u) = rising-left 0 lo hi (subst (λ (xs : List Entry). Rising 0 xs) (sym all) r) in
+    let low : (j : ℕ) → j < c → Under (at3 y j .address) (take i u) =
+    λ j o. below-gap (at3 y j) (ltb 0 i) refl (sg .stripe j o) up in
+    let s : n + c ≡ i + c + (n - i) = omega arith in
+    ap (λ (m : ℕ). take m v) s ∙ take-add (i + c) (n - i) v
+    ∙ ap₂ (λ (xs ys : List Entry). xs ++ take (n - i) ys) (fl .front) (fl .back c (omega arith))
+    ∙ sym (merged-between d k c y dpos sg lo hi low (op .opening .higher)
+    (λ x m. f x (subst (λ (xs : List Entry). InE x xs) all (in-behind x lo hi m))) c (omega arith))
+    ∙ ap (merged c y) all
+  where
+    below-gap : (z : Entry) (b : Bool) → ltb 0 i ≡ b → z .address / d ≡ k → Rising 0 (take i u) → Under (z .address) (take i u)
+    below-gap z false e st up = let o : i ≡ zero = (let a = ltb-false 0 i e in omega arith) in subst (λ (m : ℕ). Under (z .address) (take m u)) (sym o) tt
+    below-gap z true e st up =
+        let o : 0 < i = ltb-true 0 i e in
+        let w : i ≤ n = op .opening .within in
+        let x : Entry = getD u (i - 1) noEntry in
+        let lx : getD u (i - 1) noEntry .address / d < k = op .lower o in
+        let s : suc (i - 1) ≡ i = omega arith in
+        let split : take i u ≡ take (i - 1) u ++ (getD u (i - 1) noEntry ∷ []) =
+        ap (λ (m : ℕ). take m u) (sym s) ∙ take-suc u (i - 1) noEntry (omega arith) in
+        let less : getD u (i - 1) noEntry .address < z .address = stripe-under-less (getD u (i - 1) noEntry .address) (z .address) d dpos (omega arith) in
+        subst (λ (xs : List Entry). Under (z .address) xs) (sym split)
+        (rising-last 0 (z .address) (take (i - 1) u) x less (subst (λ (xs : List Entry). Rising 0 xs) split up) .0)

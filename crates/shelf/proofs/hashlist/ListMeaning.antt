@@ -5,46 +5,43 @@ use mathlib.Core.Bool.{Bool, true, false, not, _&&_, and-true}
 use mathlib.Core.List.{List, [], _∷_}
 use mathlib.Core.Logic.{⊎-elim, _≢_}
 use mathlib.Core.Path.{_≡_, refl, sym, ap, ap₂, _∙_, subst}
-use Prim.Native.Nat.{ℕ, zero, suc, _+_, _*_, _/_, _≤_, _<_}
-use native.Mathlib.Nat.{mul-comm, zero-add}
+use Prim.Native.Nat.{ℕ, _+_, _*_, _/_, _≤_, _<_}
+use native.Mathlib.Nat.{mul-comm, div-lt-iff-lt-mul}
 use native.Mathlib.Omega.{arith}
 use lib.Dec.{eqb, ltb}
 use lib.ListN.{length, replicate}
 use borrow.Author.Tests.{eq-eqb, ne-eqb, lt-ltb, le-ltb, eqb-true, ltb-true, ltb-false}
 use Rattle.shelf.specs.declared.record.Geometry.{Geometry}
-use Rattle.shelf.specs.Counting.{choose, bit, count, total}
+use Rattle.shelf.specs.Counting.{choose, count, total}
 use Rattle.shelf.specs.Words.{words}
-use Rattle.shelf.specs.HashList.{noneWord, addressAt, oriAt, lookup, isRecord, allListed, goodStripe, valid, Passing, Entry, entry, entryAt, said, entriesFrom, entries, listedIn, staleIn}
-use Rattle.shelf.specs.Rewriting.{encode, putAll, dropStripe, merged, at3, Segment, Rewritten}
-use Rattle.shelf.proofs.general.TestLaws.{either-way, and-false, choose-true, choose-false}
+use Rattle.shelf.specs.HashList.{noneWord, lookup, isRecord, valid, Entry, entry, entryAt, said, has, entries, putAll, encode, listedIn, staleIn}
+use Rattle.shelf.specs.Rewriting.{dropStripe, merged, at3, Segment, Rewritten}
+use Rattle.shelf.proofs.general.TestLaws.{either-way, clash, same-bool, and-both, and-false, choose-true, choose-false}
 use Rattle.shelf.proofs.general.AddressLaws.{stripe-of}
 use Rattle.shelf.proofs.general.CountLaws.{count-ext, count-zero, none-any, none-count, total-at, total-zero}
 use Rattle.shelf.proofs.hashlist.ChainLaws.{placeOf, length-putN, lookup-encode}
-use Rattle.shelf.proofs.general.WalkLaws.{countFrom, countFrom-rows}
-use Rattle.shelf.proofs.hashlist.PlaceLaws.{listed-each}
-use Rattle.shelf.proofs.hashlist.EncodeLaws.{Fit, encode-valid}
-use Rattle.shelf.proofs.hashlist.FoundLaws.{found-address, found-sound, length-entries, entries-count}
-use Rattle.shelf.proofs.hashlist.GatherLaws.{entries-rising, merged-new, length-merged}
+use Rattle.shelf.proofs.general.WalkLaws.{countFrom, countFrom-ext, countFrom-rows}
+use Rattle.shelf.proofs.hashlist.EncodeLaws.{Fit, encode-valid, has-true, has-elim}
+use Rattle.shelf.proofs.hashlist.FoundLaws.{fit-of, count-has, entries-rising, entries-fits, found-address, found-fit, has-listed, listed-has, listed-total}
+use Rattle.shelf.proofs.hashlist.GatherLaws.{merged-new, length-merged, drop-in, in-drop, drop-rising}
 use Rattle.shelf.proofs.hashlist.AlterLaws.{dropped, Altered, altered}
 use Rattle.shelf.proofs.hashlist.PickLaws.{pickE, looked, unlisted, pick-new, pick-gone, pick-others}
-
-pub passing : (w : List ℕ) (g : Geometry) (next listed : ℕ) → valid w g next listed ≡ true → Passing w g
-passing w g next listed v = record { next = next; listed = listed; passing = v }
 
 pub length-encode : (g : Geometry) (es : List Entry) → 0 < g .h → g .e ≤ 4096 → length (encode g es) ≡ g .h + 4 * g .e
 unfolding encode
 length-encode g es hpos small = length-putN (g .h) (g .e) hpos small 0 es
 
--- an entry more, of stripe k or of another
-length-dropped : (d k : ℕ) (x : Entry) (xs : List Entry)
-    → length (dropStripe d k (x ∷ xs)) ≡ bit (not (eqb (x .address / d) k)) + length (dropStripe d k xs)
-unfolding dropStripe bit
-length-dropped d k x xs = go (eqb (x .address / d) k)
-  where
-    go : (t : Bool) → length {A = Entry} (elim t as (λ _. List Entry) [ true ↦ dropStripe d k xs | false ↦ x ∷ dropStripe d k xs ])
-        ≡ bit (not t) + length (dropStripe d k xs)
-    go true = sym (zero-add (length (dropStripe d k xs)))
-    go false = omega arith
+-- the addresses that entries have outside stripe k
+has-drop : (d k : ℕ) (es : List Entry) (b : ℕ) → has (dropStripe d k es) b ≡ (has es b && not (eqb (b / d) k))
+has-drop d k es b =
+    same-bool (has (dropStripe d k es) b) (has es b && not (eqb (b / d) k))
+    (λ t. let h = has-elim (dropStripe d k es) b t in
+    let r = drop-in d k (h .who) es (h .within) in
+    ap₂ (λ (x y : Bool). x && not y) (has-true es (h .who) b (r .0) (h .is)) (ne-eqb (b / d) k (λ z. r .1 (ap (λ (a : ℕ). a / d) (h .is) ∙ z))))
+    (λ t. let p = and-both (has es b) (not (eqb (b / d) k)) t in
+    let h = has-elim es b (p .0) in
+    has-true (dropStripe d k es) (h .who) b
+    (in-drop d k (h .who) es (h .within) (λ z. clash (p .1) (ap not (eq-eqb (b / d) k (ap (λ (a : ℕ). a / d) (sym (h .is)) ∙ z))))) (h .is))
 
 -- ---- a list that passes number 3
 
@@ -82,7 +79,7 @@ module _ (w : List ℕ) (g : Geometry) (next listed : ℕ) (hpos : 0 < g .h) (dp
       ⊎-elim
       (λ t. let o = ltb-true (lookup w g a) (g .e) t in
       ap (λ (x : Entry). not (eqb (x .ori) noneWord && eqb (x .cur) noneWord)) (said-there a o)
-      ∙ found-sound w g next listed hpos dpos small v a o .entry-is .some ∙ sym t)
+      ∙ found-fit w g next listed hpos dpos small v a o .some ∙ sym t)
       (λ t. ap (λ (x : Entry). not (eqb (x .ori) noneWord && eqb (x .cur) noneWord)) (said-not a (ltb-false (lookup w g a) (g .e) t))
       ∙ sym t)
       (either-way (ltb (lookup w g a) (g .e)))
@@ -93,7 +90,7 @@ module _ (w : List ℕ) (g : Geometry) (next listed : ℕ) (hpos : 0 < g .h) (dp
   said-ori a =
       ⊎-elim
       (λ t. let o = ltb-true (lookup w g a) (g .e) t in ap (λ (x : Entry). isRecord (x .ori) next) (said-there a o)
-      ∙ found-sound w g next listed hpos dpos small v a o .entry-is .ori)
+      ∙ found-fit w g next listed hpos dpos small v a o .ori)
       (λ t. ap (λ (x : Entry). isRecord (x .ori) next) (said-not a (ltb-false (lookup w g a) (g .e) t)))
       (either-way (ltb (lookup w g a) (g .e)))
 
@@ -102,43 +99,30 @@ module _ (w : List ℕ) (g : Geometry) (next listed : ℕ) (hpos : 0 < g .h) (dp
   said-cur a =
       ⊎-elim
       (λ t. let o = ltb-true (lookup w g a) (g .e) t in ap (λ (x : Entry). isRecord (x .cur) next) (said-there a o)
-      ∙ found-sound w g next listed hpos dpos small v a o .entry-is .cur)
+      ∙ found-fit w g next listed hpos dpos small v a o .cur)
       (λ t. ap (λ (x : Entry). isRecord (x .cur) next) (said-not a (ltb-false (lookup w g a) (g .e) t)))
       (either-way (ltb (lookup w g a) (g .e)))
 
   -- a listed block that lacks Ori has no unlisted block in its stripe
   pub said-whole : (x i : ℕ) → i < g .d → lookup w g (x * g .d + i) < g .e → said w g (x * g .d + i) .ori ≡ noneWord → (k : ℕ) → k < g .d
       → lookup w g (x * g .d + k) < g .e
-  unfolding goodStripe
   said-whole x i il o n k kl =
       let a : ℕ = x * g .d + i in
-      let p : ℕ = lookup w g (x * g .d + i) in
-      let s = found-sound w g next listed hpos dpos small v (x * g .d + i) o in
-      let lacks : oriAt w (g .h) p ≡ noneWord = ap (λ (z : Entry). z .ori) (sym (said-there (x * g .d + i) o)) ∙ n in
-      let b : ℕ = addressAt w (g .h) p in
-      let all : allListed (g .d) w g (b / g .d * g .d) ≡ true =
-      sym (choose-true (eqb (oriAt w (g .h) p) noneWord) (allListed (g .d) w g (b / g .d * g .d)) true
-      (eq-eqb (oriAt w (g .h) p) noneWord lacks)) ∙ s .stripe in
-      let base : b / g .d ≡ x = ap (λ (j : ℕ). j / g .d) (found-address w g next listed hpos dpos small v (x * g .d + i) o)
-      ∙ stripe-of x (g .d) i il in
-      subst (λ (j : ℕ). lookup w g (j * g .d + k) < g .e) base (listed-each (g .d) w g (b / g .d * g .d) k all kl)
+      let q : entryAt w g (lookup w g a) .address / g .d ≡ x =
+      ap (λ (j : ℕ). j / g .d) (found-address w g next listed hpos dpos small v a o) ∙ stripe-of x (g .d) i il in
+      let lacks : entryAt w g (lookup w g a) .ori ≡ noneWord = ap (λ (z : Entry). z .ori) (sym (said-there a o)) ∙ n in
+      let h = found-fit w g next listed hpos dpos small v a o .stripe lacks k kl in
+      subst (λ (j : ℕ). lookup w g (j * g .d + k) < g .e) q
+      (has-listed w g next listed hpos dpos small v (entryAt w g (lookup w g a) .address / g .d * g .d + k) h)
 
   -- as many blocks are listed as the count says
   pub listed-count : total (g .s) (λ x. count (g .d) (λ i. ltb (lookup w g (x * g .d + i)) (g .e))) ≡ listed
-  unfolding entries
   listed-count =
       countFrom-rows (g .s) (g .d) (λ a. ltb (lookup w g a) (g .e))
       ∙ ap (λ (n : ℕ). countFrom n (λ a. ltb (lookup w g a) (g .e)) 0) (mul-comm (g .s) (g .d))
-      ∙ sym (length-entries (g .d * g .s) w g 0) ∙ entries-count w g next listed hpos dpos small v
+      ∙ listed-total w g next listed hpos dpos small v
 
-  -- where the count is 0 there are no entries, no block is found, and no stripe is stale
-  pub nothing-listed : listed ≡ 0 → entries w g ≡ []
-  nothing-listed z = empty (entries w g) (entries-count w g next listed hpos dpos small v ∙ z)
-    where
-      empty : (es : List Entry) → length es ≡ 0 → es ≡ []
-      empty [] e = refl
-      empty (x ∷ xs) e = absurd (omega (arith, e))
-
+  -- where the count is 0 no block is found, and no stripe is stale
   pub nothing-found : listed ≡ 0 → (x i : ℕ) → x < g .s → i < g .d → ltb (lookup w g (x * g .d + i)) (g .e) ≡ false
   nothing-found z x i hx hi =
       count-zero (g .d) (λ i. ltb (lookup w g (x * g .d + i)) (g .e))
@@ -148,34 +132,25 @@ module _ (w : List ℕ) (g : Geometry) (next listed : ℕ) (hpos : 0 < g .h) (dp
   unfolding staleIn
   nothing-stale z x hx = none-any (g .d) (listedIn w g x) (λ i hi. nothing-found z x i hx hi)
 
-  -- the entries but those of stripe k, address by address
-  kept-from : (k f a : ℕ) → length (dropStripe (g .d) k (entriesFrom f w g a)) ≡ countFrom f (λ b. ltb (lookup w g b) (g .e) && not (eqb (b / g .d) k)) a
-  unfolding entriesFrom countFrom dropStripe bit
-  kept-from k zero a = refl
-  kept-from k (suc f) a = go (ltb (lookup w g a) (g .e)) refl (kept-from k f (a + 1))
-    where
-      go : (t : Bool) → ltb (lookup w g a) (g .e) ≡ t
-          → length (dropStripe (g .d) k (entriesFrom f w g (a + 1))) ≡ countFrom f (λ b. ltb (lookup w g b) (g .e) && not (eqb (b / g .d) k)) (a + 1)
-          → length (dropStripe (g .d) k (elim t as (λ _. List Entry) [
-            | true ↦ entryAt w g (lookup w g a)
-                ∷ entriesFrom f w g (a + 1)
-            | false ↦ entriesFrom f w g (a + 1)
-          ])) ≡ bit (t && not (eqb (a / g .d) k)) + countFrom f (λ b. ltb (lookup w g b) (g .e) && not (eqb (b / g .d) k)) (a + 1)
-      go true q ih =
-          length-dropped (g .d) k (entryAt w g (lookup w g a)) (entriesFrom f w g (a + 1))
-          ∙ ap₂ (λ (b n : ℕ). bit (not (eqb (b / g .d) k)) + n)
-          (found-address w g next listed hpos dpos small v a (ltb-true (lookup w g a) (g .e) q)) ih
-      go false q ih = ih ∙ sym (zero-add (countFrom f (λ b. ltb (lookup w g b) (g .e) && not (eqb (b / g .d) k)) (a + 1)))
+  -- the addresses found outside stripe k are as many as the entries there
+  kept-total : (k : ℕ)
+      → countFrom (g .d * g .s) (λ b. ltb (lookup w g b) (g .e) && not (eqb (b / g .d) k)) 0 ≡ length (dropStripe (g .d) k (entries w g))
+  kept-total k =
+      let es : List Entry = entries w g in
+      let kept : List Entry = dropStripe (g .d) k (entries w g) in
+      countFrom-ext (g .d * g .s) (λ b. ltb (lookup w g b) (g .e) && not (eqb (b / g .d) k)) (λ b. has kept b) 0
+      (λ b. ap (λ (t : Bool). t && not (eqb (b / g .d) k)) (listed-has w g next listed hpos dpos small v b) ∙ sym (has-drop (g .d) k es b))
+      ∙ count-has (g .d * g .s) 0 kept (drop-rising 0 (g .d) k es (entries-rising w g next listed hpos dpos small v))
+      (λ x n. fit-of g next es es (entries-fits w g next listed hpos dpos small v) x (drop-in (g .d) k x es n .0) .below)
 
   -- the entries of the other stripes and those of stripe k are all
   pub kept-count : (k : ℕ) → k < g .s
       → length (dropStripe (g .d) k (entries w g)) + count (g .d) (λ i. ltb (lookup w g (k * g .d + i)) (g .e)) ≡ listed
-  unfolding entries
   kept-count k o =
       let there : ℕ → Bool = λ a. ltb (lookup w g a) (g .e) in
       let kept : ℕ → Bool = λ a. ltb (lookup w g a) (g .e) && not (eqb (a / g .d) k) in
-      let all : total (g .s) (λ x. count (g .d) (λ i. kept (x * g .d + i))) ≡ length (dropStripe (g .d) k (entriesFrom (g .d * g .s) w g 0)) =
-      countFrom-rows (g .s) (g .d) kept ∙ ap (λ (n : ℕ). countFrom n kept 0) (mul-comm (g .s) (g .d)) ∙ sym (kept-from k (g .d * g .s) 0) in
+      let all : total (g .s) (λ x. count (g .d) (λ i. kept (x * g .d + i))) ≡ length (dropStripe (g .d) k (entries w g)) =
+      countFrom-rows (g .s) (g .d) kept ∙ ap (λ (n : ℕ). countFrom n kept 0) (mul-comm (g .s) (g .d)) ∙ kept-total k in
       let others =
       total-at (g .s) (λ x. count (g .d) (λ i. kept (x * g .d + i))) (λ x. count (g .d) (λ i. there (x * g .d + i))) k o
       (λ x _ ne. count-ext (g .d) (λ i. kept (x * g .d + i)) (λ i. there (x * g .d + i))
@@ -194,7 +169,7 @@ unfolding encode putAll
 encode-none g = refl
 
 pub none-valid : (g : Geometry) (next : ℕ) → 0 < g .h → g .e ≤ 4096 → valid (encode g []) g next 0 ≡ true
-none-valid g next hpos small = encode-valid g next 0 [] hpos small (omega arith) refl tt tt
+none-valid g next hpos small = encode-valid g next 0 [] hpos small (omega arith) refl tt tt tt
 
 pub none-listed : (g : Geometry) (a : ℕ) → 0 < g .h → g .e ≤ 4096 → lookup (encode g []) g a ≡ noneWord
 unfolding placeOf
@@ -275,7 +250,7 @@ pub record NewRow (g : Geometry) (k c x : ℕ) (y : List ℕ) : Type 0 where
   pub whole : (j : ℕ) → j < c → at3 y j .ori ≡ noneWord → (i : ℕ) → i < g .d → Indexed (k * g .d + i) c y
 
 module _ (w : List ℕ) (g : Geometry) (next listed : ℕ) (hpos : 0 < g .h) (dpos : 0 < g .d) (small : g .e ≤ 4096)
-    (v : valid w g next listed ≡ true)
+    (few : g .d * g .s ≤ noneWord) (v : valid w g next listed ≡ true)
     (k c x n : ℕ) (y l : List ℕ) (new : NewRow g k c x y) (more : next ≤ x) (fits : length (dropStripe (g .d) k (entries w g)) + c ≤ g .e)
     (r : Rewritten g (merged c y (dropStripe (g .d) k (entries w g))) l n) where
   abbrev kept : List Entry
@@ -285,7 +260,7 @@ module _ (w : List ℕ) (g : Geometry) (next listed : ℕ) (hpos : 0 < g .h) (dp
   fit j o =
       let st : at3 y j .address / g .d ≡ k = new .segment .stripe j o in
       record {
-        below = subst (λ (q : ℕ). q < g .s) (sym st) (new .there);
+        below = rw (mul-comm (g .d) (g .s)) (div-lt-iff-lt-mul dpos .0 (subst (λ (q : ℕ). q < g .s) (sym st) (new .there)));
         ori = new .ori j o;
         cur = new .cur j o;
         some = new .some j o;
@@ -300,7 +275,7 @@ module _ (w : List ℕ) (g : Geometry) (next listed : ℕ) (hpos : 0 < g .h) (dp
       }
 
   whole-list : Altered w g next listed k c y x
-  whole-list = altered w g next listed k c x y hpos dpos small fits v more (new .segment) fit
+  whole-list = altered w g next listed k c x y hpos dpos small few fits v more (new .segment) fit
 
   pub replaced-count : n ≡ length kept + c
   replaced-count = r .1 .1 ∙ length-merged c y kept

@@ -4,18 +4,17 @@ use mathlib.Core.Bool.{Bool, true, false}
 use mathlib.Core.List.{List, [], _∷_}
 use mathlib.Core.Logic.{_⊎_, inl, inr, ⊎-elim, _≢_}
 use mathlib.Core.Path.{_≡_, refl, sym, ap, _∙_, subst}
-use Prim.Native.Nat.{ℕ, suc, _+_, _*_, _/_, _≤_, _<_}
-use native.Mathlib.Nat.{zero-add, div-lt-iff-lt-mul, mul-comm}
+use Prim.Native.Nat.{ℕ, suc, _/_, _≤_, _<_}
 use native.Mathlib.Omega.{arith}
 use lib.Dec.{eqb}
 use borrow.Author.Tests.{eq-eqb, ne-eqb, eqb-true, eqb-false}
 use Rattle.shelf.specs.declared.record.Geometry.{Geometry}
-use Rattle.shelf.specs.HashList.{noneWord, addressAt, lookup, valid, Entry, entry, entryAt, entries}
+use Rattle.shelf.specs.HashList.{noneWord, lookup, valid, Entry, entry, entryAt, entries}
 use Rattle.shelf.specs.Rewriting.{dropStripe, at3, merged, Segment}
 use Rattle.shelf.proofs.general.TestLaws.{either-way}
 use Rattle.shelf.proofs.hashlist.DecodeLaws.{Rising, InE}
-use Rattle.shelf.proofs.hashlist.FoundLaws.{found-address, found-sound}
-use Rattle.shelf.proofs.hashlist.GatherLaws.{entries-at, entries-has, entries-rising, rising-in, drop-in, in-drop, drop-rising, merged-rising, in-merged, merged-in, merged-new}
+use Rattle.shelf.proofs.hashlist.FoundLaws.{rising-in, entries-rising, found-in, found-address, has-listed}
+use Rattle.shelf.proofs.hashlist.GatherLaws.{drop-in, in-drop, drop-rising, merged-rising, in-merged, merged-in, merged-new}
 
 -- the entry of address a, or one with neither Ori nor Cur
 unfoldable pub pickE : List Entry → ℕ → Entry
@@ -45,26 +44,15 @@ module _ (w : List ℕ) (g : Geometry) (next listed : ℕ) (hpos : 0 < g .h) (dp
     (v : valid w g next listed ≡ true) where
   -- a listed address has the entry of its place
   pub looked : (a : ℕ) → lookup w g a < g .e → pickE (entries w g) a ≡ entryAt w g (lookup w g a)
-  unfolding entries
   looked a o =
-      let q : addressAt w (g .h) (lookup w g a) ≡ a = found-address w g next listed hpos dpos small v a o in
-      let low : addressAt w (g .h) (lookup w g a) / g .d < g .s = found-sound w g next listed hpos dpos small v a o .entry-is .low in
-      let lim : a < g .s * g .d = div-lt-iff-lt-mul dpos .0 (rw q at low) in
-      let lim2 : a < 0 + g .d * g .s = rw (zero-add (g .d * g .s), mul-comm (g .d) (g .s)) lim in
       pick-in 0 (entries w g) (entryAt w g (lookup w g a)) a (entries-rising w g next listed hpos dpos small v)
-      (entries-has (g .d * g .s) w g 0 a (omega arith) lim2 o) q
+      (found-in w g next listed hpos dpos small v a o) (found-address w g next listed hpos dpos small v a o)
 
-  -- an unlisted one has noneWord
+  -- an unlisted one has neither Ori nor Cur
   pub unlisted : (a : ℕ) → g .e ≤ lookup w g a → pickE (entries w g) a ≡ entry a noneWord noneWord
-  unfolding entries
   unlisted a o =
       pick-out (entries w g) a (λ x n e.
-      let t = entries-at (g .d * g .s) w g 0 x n in
-      let l : lookup w g (t .address) < g .e = t .listed in
-      let q : t .address ≡ a = sym (found-address w g next listed hpos dpos small v (t .address) l)
-      ∙ ap (λ (y : Entry). y .address) (sym (t .is)) ∙ e in
-      let z : lookup w g (t .address) ≡ lookup w g a = ap (λ (j : ℕ). lookup w g j) q in
-      omega arith)
+      let l = has-listed w g next listed hpos dpos small v a (record { who = x; within = n; is = e }) in omega arith)
 
 -- ---- after stripe k's entries are replaced
 

@@ -1,176 +1,184 @@
--- The tests of one place, as the code makes them.
+-- The tests of places, as the code makes them.
 -- Assumes nothing.
-use mathlib.Core.Bool.{Bool, true, false, not, _&&_}
+use mathlib.Core.Bool.{Bool, true, false, not, _||_}
 use mathlib.Core.List.{List}
-use mathlib.Core.Logic.{_≢_}
-use mathlib.Core.Path.{_≡_, refl, sym, ap, ap₂, _∙_, subst}
-use Prim.Native.Nat.{ℕ, zero, suc, _+_, _*_, _-_, _/_, _%_, _≤_, _<_}
-use native.Mathlib.Nat.{add-zero, sub-zero}
+use mathlib.Core.Logic.{⊎-elim, _≢_}
+use mathlib.Core.Path.{_≡_, sym, ap, _∙_}
+use Prim.Native.Nat.{ℕ, _+_, _*_, _-_, _%_, _≤_, _<_}
 use native.Mathlib.Omega.{arith}
 use lib.Dec.{eqb, ltb}
-use borrow.Author.Tests.{eq-eqb, ne-eqb, lt-ltb, le-ltb, ltb-true}
+use borrow.Author.Tests.{eq-eqb, ne-eqb, lt-ltb, le-ltb, le-leb, lt-leb, eqb-true, eqb-false, ltb-true, ltb-false}
 use Rattle.shelf.specs.declared.record.Geometry.{Geometry}
-use Rattle.shelf.specs.Counting.{choose}
-use Rattle.shelf.specs.HashList.{noneWord, addressAt, oriAt, curAt, lookup, isRecord, allListed, goodEntry}
-use Rattle.shelf.specs.Checking.{lowerGood, stripeFrom, goodLowest}
-use Rattle.shelf.proofs.general.TestLaws.{not-so}
+use Rattle.shelf.specs.Counting.{every}
+use Rattle.shelf.specs.HashList.{noneWord, addressAt, oriAt, curAt, nextAt, isRecord, goodWords}
+use Rattle.shelf.specs.Checking.{around, goodPlace, unused, fine, links}
+use Rattle.shelf.proofs.general.TestLaws.{either-way, not-so, false-is, choose-true, choose-false}
+use Rattle.shelf.proofs.hashlist.CheckLaws.{every-each, each-every}
 
--- ---- addresses that are listed, one after another
+-- ---- good_words
 
-pub listed-all : (f : ℕ) (w : List ℕ) (g : Geometry) (a : ℕ) → ((k : ℕ) → k < f → lookup w g (a + k) < g .e) → allListed f w g a ≡ true
-unfolding allListed
-listed-all zero w g a l = refl
-listed-all (suc f) w g a l =
-    let z : lookup w g a < g .e = rw add-zero at (l 0 (omega arith)) in
-    ap (λ (t : Bool). elim t as (λ _. Bool) [ true ↦ allListed f w g (a + 1) | false ↦ false ]) (lt-ltb (lookup w g a) (g .e) z)
-    ∙ listed-all f w g (a + 1) (λ k o. subst (λ (j : ℕ). lookup w g j < g .e) (shift a k) (l (k + 1) (omega arith)))
-  where
-    shift : (a k : ℕ) → a + (k + 1) ≡ a + 1 + k
-    shift a k = omega arith
+module _ (g : Geometry) (next a o c : ℕ) where
+  pub words-high : g .d * g .s ≤ a → goodWords g next a o c ≡ false
+  unfolding goodWords
+  words-high h = simp (le-ltb _ _ h)
 
-pub listed-each : (f : ℕ) (w : List ℕ) (g : Geometry) (a k : ℕ) → allListed f w g a ≡ true → k < f → lookup w g (a + k) < g .e
-unfolding allListed
-listed-each zero w g a k q o = absurd (omega arith)
-listed-each (suc f) w g a k q o =
-    go (ltb (lookup w g a) (g .e)) refl q k o (λ (z : allListed f w g (a + 1) ≡ true) (j : ℕ) (l : j < f). listed-each f w g (a + 1) j z l)
-  where
-    go : (t : Bool) → ltb (lookup w g a) (g .e) ≡ t → elim t as (λ _. Bool) [ true ↦ allListed f w g (a + 1) | false ↦ false ] ≡ true
-        → (k : ℕ) → k < suc f → (allListed f w g (a + 1) ≡ true → (j : ℕ) → j < f → lookup w g (a + 1 + j) < g .e)
-        → lookup w g (a + k) < g .e
-    go false z q k o rec = absurd (not-so (sym q))
-    go true z q zero o rec = rw (add-zero a) (ltb-true (lookup w g a) (g .e) z)
-    go true z q (suc k) o rec = let s : a + suc k ≡ a + 1 + k = omega arith in rw s (rec q k (omega arith))
+  module _ (low : a < g .d * g .s) (t : Bool) (x : t ≡ isRecord o next) where
+    pub words-ori : t ≡ false → goodWords g next a o c ≡ false
+    unfolding goodWords
+    words-ori z = simp (lt-ltb _ _ low, sym x ∙ z)
 
--- ---- the turns of all_listed
+    module _ (z : t ≡ true) (u : Bool) (y : u ≡ isRecord c next) where
+      pub words-cur : u ≡ false → goodWords g next a o c ≡ false
+      unfolding goodWords
+      words-cur v = simp (lt-ltb _ _ low, sym x ∙ z, sym y ∙ v)
 
-pub listed-start : (f : ℕ) (w : List ℕ) (g : Geometry) (a : ℕ) → allListed (f - 0) w g (a + 0) ≡ allListed f w g a
-listed-start f w g a = ap₂ (λ (n b : ℕ). allListed n w g b) (sub-zero f) (add-zero a)
+      pub words-lacks : u ≡ true → o ≡ noneWord → goodWords g next a o c ≡ not (eqb c noneWord)
+      unfolding goodWords
+      words-lacks v on = simp (lt-ltb _ _ low, sym x ∙ z, sym y ∙ v, eq-eqb o noneWord on)
 
-pub listed-done : (f : ℕ) (w : List ℕ) (g : Geometry) (a : ℕ) → f ≡ 0 → allListed f w g a ≡ true
-unfolding allListed
-listed-done f w g a z = ap (λ (n : ℕ). allListed n w g a) z
+      pub words-has : u ≡ true → o ≢ noneWord → goodWords g next a o c ≡ true
+      unfolding goodWords
+      words-has v on = simp (lt-ltb _ _ low, sym x ∙ z, sym y ∙ v, ne-eqb o noneWord on)
 
-listed-suc : (f : ℕ) (w : List ℕ) (g : Geometry) (a : ℕ) (t : Bool) → ltb (lookup w g a) (g .e) ≡ t
-    → allListed (suc f) w g a ≡ elim t as (λ _. Bool) [ true ↦ allListed f w g (a + 1) | false ↦ false ]
-unfolding allListed
-listed-suc f w g a t q = ap (λ (t : Bool). elim t as (λ _. Bool) [ true ↦ allListed f w g (a + 1) | false ↦ false ]) q
+-- ---- whole_around
 
-pub listed-stop : (f k : ℕ) (w : List ℕ) (g : Geometry) (a r : ℕ) → k < f → r ≡ lookup w g (a + k) → g .e ≤ r
-    → allListed (f - k) w g (a + k) ≡ false
-listed-stop f k w g a r o q b =
-    let s : f - k ≡ suc (f - (k + 1)) = omega arith in
-    ap (λ (n : ℕ). allListed n w g (a + k)) s ∙ listed-suc (f - (k + 1)) w g (a + k) false (le-ltb (lookup w g (a + k)) (g .e) (rw q at b))
+module _ (w : List ℕ) (g : Geometry) (n p a : ℕ) where
+  pub around-left : p < a % g .d → around w g n p a ≡ false
+  unfolding around
+  around-left o = simp (lt-leb _ _ o)
 
-pub listed-turn : (f k : ℕ) (w : List ℕ) (g : Geometry) (a r : ℕ) → k < f → r ≡ lookup w g (a + k) → r < g .e
-    → allListed (f - (k + 1)) w g (a + (k + 1)) ≡ allListed (f - k) w g (a + k)
-listed-turn f k w g a r o q b =
-    let s : f - k ≡ suc (f - (k + 1)) = omega arith in
-    let u : a + (k + 1) ≡ a + k + 1 = omega arith in
-    ap (λ (j : ℕ). allListed (f - (k + 1)) w g j) u
-    ∙ sym (ap (λ (n : ℕ). allListed n w g (a + k)) s
-    ∙ listed-suc (f - (k + 1)) w g (a + k) true (lt-ltb (lookup w g (a + k)) (g .e) (rw q at b)))
+  module _ (l : a % g .d ≤ p) where
+    pub around-right : n < p - a % g .d + g .d → around w g n p a ≡ false
+    unfolding around
+    around-right o = simp (le-leb _ _ l, lt-leb _ _ o)
 
--- ---- the tests of good_entry
+    module _ (m : p - a % g .d + g .d ≤ n) (r : ℕ) (x : r ≡ addressAt w (g .h) (p - a % g .d)) where
+      pub around-first : r ≢ a - a % g .d → around w g n p a ≡ false
+      unfolding around
+      around-first o =
+          simp (le-leb _ _ l, le-leb _ _ m, ne-eqb (addressAt w (g .h) (p - a % g .d)) (a - a % g .d) (λ z. o (x ∙ z)))
 
-module _ (w : List ℕ) (g : Geometry) (next i p a o c : ℕ) where
-  pub bad-low : g .s ≤ a / g .d → goodEntry w g next i p a o c ≡ false
-  unfolding goodEntry
-  bad-low h = simp (le-ltb _ _ h)
+      pub around-last : r ≡ a - a % g .d → (u : ℕ) → u ≡ addressAt w (g .h) (p - a % g .d + (g .d - 1))
+          → around w g n p a ≡ eqb u (a - a % g .d + (g .d - 1))
+      unfolding around
+      around-last o u y =
+          simp (le-leb _ _ l, le-leb _ _ m, eq-eqb (addressAt w (g .h) (p - a % g .d)) (a - a % g .d) (sym x ∙ o), y)
 
-  module _ (low : a / g .d < g .s) where
-    pub bad-slot : a % g .h ≢ i → goodEntry w g next i p a o c ≡ false
-    unfolding goodEntry
-    bad-slot h = simp (lt-ltb _ _ low, ne-eqb _ _ h)
+-- ---- good_place
 
-    module _ (slot : a % g .h ≡ i) where
-      pub bad-twice : (r : ℕ) → r ≡ lookup w g a → r ≢ p → goodEntry w g next i p a o c ≡ false
-      unfolding goodEntry
-      bad-twice r q h = simp (lt-ltb _ _ low, eq-eqb _ _ slot, ne-eqb (lookup w g a) p (λ z. h (q ∙ z)))
+module _ (w : List ℕ) (g : Geometry) (next n p a : ℕ) (x : a ≡ addressAt w (g .h) p) where
+  abbrev before : Bool
+  before = eqb p 0 || ltb (addressAt w (g .h) (p - 1)) (addressAt w (g .h) p)
 
-      module _ (r : ℕ) (q : r ≡ lookup w g a) (here : r ≡ p) where
-        at-p : eqb (lookup w g a) p ≡ true
-        at-p = eq-eqb (lookup w g a) p (sym q ∙ here)
+  pub before-first : p ≤ 0 → before ≡ true
+  before-first o = ap (λ (t : Bool). t || ltb (addressAt w (g .h) (p - 1)) (addressAt w (g .h) p)) (eq-eqb p 0 (omega arith))
 
-        pub bad-ori : (t : Bool) → t ≡ isRecord o next → t ≡ false → goodEntry w g next i p a o c ≡ false
-        unfolding goodEntry
-        bad-ori t x z = simp (lt-ltb _ _ low, eq-eqb _ _ slot, at-p, sym x ∙ z)
+  before-by : 0 < p → before ≡ ltb (addressAt w (g .h) (p - 1)) (addressAt w (g .h) p)
+  before-by o = ap (λ (t : Bool). t || ltb (addressAt w (g .h) (p - 1)) (addressAt w (g .h) p)) (ne-eqb p 0 (λ z. omega arith))
 
-        pub bad-cur : (t u : Bool) → t ≡ isRecord o next → t ≡ true → u ≡ isRecord c next → u ≡ false → goodEntry w g next i p a o c ≡ false
-        unfolding goodEntry
-        bad-cur t u x z y v = simp (lt-ltb _ _ low, eq-eqb _ _ slot, at-p, sym x ∙ z, sym y ∙ v)
+  pub before-up : 0 < p → (r : ℕ) → r ≡ addressAt w (g .h) (p - 1) → r < a → before ≡ true
+  before-up o r y l = before-by o ∙ lt-ltb _ _ (rw (y, x) at l)
 
-        module _ (t u : Bool) (x : t ≡ isRecord o next) (z : t ≡ true) (y : u ≡ isRecord c next) (v : u ≡ true) where
-          pub lacks-ori : o ≡ noneWord → goodEntry w g next i p a o c ≡ not (eqb c noneWord)
-          unfolding goodEntry
-          lacks-ori on = simp (lt-ltb _ _ low, eq-eqb _ _ slot, at-p, sym x ∙ z, sym y ∙ v, eq-eqb o noneWord on)
+  pub place-low : 0 < p → (r : ℕ) → r ≡ addressAt w (g .h) (p - 1) → a ≤ r → goodPlace w g next n p ≡ false
+  unfolding goodPlace
+  place-low o r y l = simp (before-by o ∙ le-ltb _ _ (rw (y, x) at l))
 
-          pub has-ori : o ≢ noneWord → goodEntry w g next i p a o c ≡ true
-          unfolding goodEntry
-          has-ori on = simp (lt-ltb _ _ low, eq-eqb _ _ slot, at-p, sym x ∙ z, sym y ∙ v, ne-eqb o noneWord on)
+  module _ (b : before ≡ true) (o c : ℕ) (y : o ≡ oriAt w (g .h) p) (z : c ≡ curAt w (g .h) p) (t : Bool) (e : t ≡ goodWords g next a o c) where
+    same : t ≡ goodWords g next (addressAt w (g .h) p) (oriAt w (g .h) p) (curAt w (g .h) p)
+    same = e ∙ rw (x, y, z)
 
--- ---- the turns of stripe_from
+    pub place-bad : t ≡ false → goodPlace w g next n p ≡ false
+    unfolding goodPlace
+    place-bad q = simp (b, sym same ∙ q)
 
-pub lower-none : (k : ℕ) (w : List ℕ) (g : Geometry) (b : ℕ) (rest : Bool) → k ≡ 0 → lowerGood k w g b rest ≡ rest
-unfolding lowerGood
-lower-none k w g b rest z = ap (λ (n : ℕ). lowerGood n w g b rest) z
+    pub place-lacks : t ≡ true → o ≡ noneWord → (r : Bool) → r ≡ around w g n p a → goodPlace w g next n p ≡ r
+    unfolding goodPlace
+    place-lacks q m r v =
+        simp (b, sym same ∙ q)
+        (choose-true _ _ _ (eq-eqb (oriAt w (g .h) p) noneWord (sym y ∙ m)) ∙ ap (λ (k : ℕ). around w g n p k) (sym x) ∙ sym v)
 
-pub lower-suc : (k : ℕ) (w : List ℕ) (g : Geometry) (b : ℕ) (rest t u : Bool) → ltb (lookup w g (b + k)) (g .e) ≡ t
-    → eqb (oriAt w (g .h) (lookup w g (b + k))) noneWord ≡ u
-    → lowerGood (suc k) w g b rest
-    ≡ elim t as (λ _. Bool) [ true ↦ elim u as (λ _. Bool) [ true ↦ true | false ↦ lowerGood k w g b rest ] | false ↦ false ]
-unfolding lowerGood
-lower-suc k w g b rest t u p q =
-    ap₂ (λ (t u : Bool). elim t as (λ
-    _. Bool) [ true ↦ elim u as (λ _. Bool) [ true ↦ true | false ↦ lowerGood k w g b rest ] | false ↦ false ]) p q
+    pub place-has : t ≡ true → o ≢ noneWord → goodPlace w g next n p ≡ true
+    unfolding goodPlace
+    place-has q m = simp (b, sym same ∙ q) (choose-false _ _ _ (ne-eqb (oriAt w (g .h) p) noneWord (λ v. m (y ∙ v))))
 
-pub lower-missing : (k j : ℕ) (w : List ℕ) (g : Geometry) (b r : ℕ) (rest : Bool) → k ≡ suc j → r ≡ lookup w g (b + j) → g .e ≤ r
-    → lowerGood k w g b rest ≡ false
-lower-missing k j w g b r rest z q o =
-    ap (λ (n : ℕ). lowerGood n w g b rest) z
-    ∙ lower-suc j w g b rest false (eqb (oriAt w (g .h) (lookup w g (b + j))) noneWord)
-    (le-ltb (lookup w g (b + j)) (g .e) (rw q at o)) refl
+-- ---- is_unused
 
-pub lower-answers : (k j : ℕ) (w : List ℕ) (g : Geometry) (b r o : ℕ) (rest : Bool) → k ≡ suc j → r ≡ lookup w g (b + j) → r < g .e
-    → o ≡ oriAt w (g .h) r → o ≡ noneWord
-    → lowerGood k w g b rest ≡ true
-lower-answers k j w g b r o rest z q l x y =
-    ap (λ (n : ℕ). lowerGood n w g b rest) z
-    ∙ lower-suc j w g b rest true true (lt-ltb (lookup w g (b + j)) (g .e) (rw q at l))
-    (eq-eqb (oriAt w (g .h) (lookup w g (b + j))) noneWord (ap (λ (n : ℕ). oriAt w (g .h) n) (sym q) ∙ sym x ∙ y))
+module _ (w : List ℕ) (h p a : ℕ) (x : a ≡ addressAt w h p) where
+  pub unused-address : a ≢ noneWord → unused w h p ≡ false
+  unfolding unused
+  unused-address q = simp (ne-eqb (addressAt w h p) noneWord (λ v. q (x ∙ v)))
 
-pub lower-turn : (k j : ℕ) (w : List ℕ) (g : Geometry) (b r o : ℕ) (rest : Bool) → k ≡ suc j → r ≡ lookup w g (b + j) → r < g .e
-    → o ≡ oriAt w (g .h) r → o ≢ noneWord
-    → lowerGood j w g b rest ≡ lowerGood k w g b rest
-lower-turn k j w g b r o rest z q l x y =
-    sym (ap (λ (n : ℕ). lowerGood n w g b rest) z
-    ∙ lower-suc j w g b rest true false (lt-ltb (lookup w g (b + j)) (g .e) (rw q at l))
-    (ne-eqb (oriAt w (g .h) (lookup w g (b + j))) noneWord (λ v. y (x ∙ ap (λ (n : ℕ). oriAt w (g .h) n) q ∙ v))))
+  module _ (s : a ≡ noneWord) (o : ℕ) (y : o ≡ oriAt w h p) where
+    pub unused-ori : o ≢ noneWord → unused w h p ≡ false
+    unfolding unused
+    unused-ori q = simp (eq-eqb (addressAt w h p) noneWord (sym x ∙ s), ne-eqb (oriAt w h p) noneWord (λ v. q (y ∙ v)))
 
-pub stripe-start : (w : List ℕ) (g : Geometry) (a : ℕ)
-    → lowerGood (a % g .d) w g (a / g .d * g .d) (allListed (g .d - a % g .d - 1) w g (a + 1)) ≡ stripeFrom w g a
-unfolding stripeFrom
-stripe-start w g a = refl
+    module _ (t : o ≡ noneWord) (c : ℕ) (z : c ≡ curAt w h p) where
+      pub unused-cur : c ≢ noneWord → unused w h p ≡ false
+      unfolding unused
+      unused-cur q =
+          simp (
+            eq-eqb (addressAt w h p) noneWord (sym x ∙ s),
+            eq-eqb (oriAt w h p) noneWord (sym y ∙ t),
+            ne-eqb (curAt w h p) noneWord (λ v. q (z ∙ v)),
+          )
 
--- ---- the tests of good_place
+      pub unused-next : c ≡ noneWord → (r : ℕ) → r ≡ nextAt w h p → unused w h p ≡ eqb r noneWord
+      unfolding unused
+      unused-next q r u =
+          simp (
+            eq-eqb (addressAt w h p) noneWord (sym x ∙ s),
+            eq-eqb (oriAt w h p) noneWord (sym y ∙ t),
+            eq-eqb (curAt w h p) noneWord (sym z ∙ q),
+            u,
+          )
 
-module _ (w : List ℕ) (g : Geometry) (next i p a o c : ℕ) (x : a ≡ addressAt w (g .h) p) (y : o ≡ oriAt w (g .h) p)
-    (z : c ≡ curAt w (g .h) p) (t : Bool) (e : t ≡ goodEntry w g next i p a o c) where
-  same : t ≡ goodEntry w g next i p (addressAt w (g .h) p) (oriAt w (g .h) p) (curAt w (g .h) p)
-  same = e ∙ rw (x, y, z)
+-- ---- links_up
 
-  pub place-bad : t ≡ false → goodLowest w g next i p ≡ false
-  unfolding goodLowest
-  place-bad h = ap (λ (u : Bool). u && choose (eqb (oriAt w (g .h) p) noneWord) (stripeFrom w g (addressAt w (g .h) p)) true) (sym same ∙ h)
+module _ (w : List ℕ) (h i p a : ℕ) (x : a ≡ addressAt w h p) where
+  pub links-other : a % h ≢ i → links w h i p ≡ false
+  unfolding links
+  links-other q = simp (ne-eqb (addressAt w h p % h) i (λ v. q (ap (λ (k : ℕ). k % h) x ∙ v)))
 
-  pub place-lacks : t ≡ true → o ≡ noneWord → goodLowest w g next i p ≡ stripeFrom w g a
-  unfolding goodLowest choose
-  place-lacks h n =
-      ap₂ (λ (u v : Bool). u && choose v (stripeFrom w g (addressAt w (g .h) p)) true) (sym same
-      ∙ h) (eq-eqb (oriAt w (g .h) p) noneWord (sym y ∙ n))
-      ∙ ap (λ (b : ℕ). stripeFrom w g b) (sym x)
+  pub links-by : a % h ≡ i → (r : ℕ) → r ≡ nextAt w h p → links w h i p ≡ ltb p r
+  unfolding links
+  links-by q r y = simp (eq-eqb (addressAt w h p % h) i (ap (λ (k : ℕ). k % h) (sym x) ∙ q), y)
 
-  pub place-good : t ≡ true → o ≢ noneWord → goodLowest w g next i p ≡ true
-  unfolding goodLowest choose
-  place-good h n =
-      ap₂ (λ (u v : Bool). u && choose v (stripeFrom w g (addressAt w (g .h) p)) true) (sym same
-      ∙ h) (ne-eqb (oriAt w (g .h) p) noneWord (λ v. n (y ∙ v)))
+-- ---- check_places
+
+-- one more passes
+pub each-more : (f : ℕ → Bool) (n p : ℕ) → ((q : ℕ) → n ≤ q → q < p → f q ≡ true) → f p ≡ true → (q : ℕ) → n ≤ q → q < p + 1 → f q ≡ true
+each-more f n p h y q o l =
+    ⊎-elim
+    (λ t. ap f (eqb-true q p t) ∙ y)
+    (λ t. let z : q ≢ p = eqb-false q p t in h q o (omega arith))
+    (either-way (eqb q p))
+
+module _ (w : List ℕ) (g : Geometry) (next n : ℕ) (room : n ≤ g .e) where
+  abbrev tested : Bool
+  tested = every (g .e) (fine w g next n)
+
+  fine-good : (q : ℕ) → q < n → fine w g next n q ≡ goodPlace w g next n q
+  unfolding fine
+  fine-good q o = choose-true (ltb q n) _ _ (lt-ltb q n o)
+
+  fine-not : (q : ℕ) → n ≤ q → fine w g next n q ≡ unused w (g .h) q
+  unfolding fine
+  fine-not q o = choose-false (ltb q n) _ _ (le-ltb q n o)
+
+  pub places-bad : (p : ℕ) → p < n → (t : Bool) → t ≡ goodPlace w g next n p → t ≡ false → tested ≡ false
+  places-bad p o t e z =
+      false-is tested (λ v. not-so (sym (every-each (g .e) (fine w g next n) v p (omega arith)) ∙ fine-good p o ∙ sym e ∙ z))
+
+  pub places-used : (p : ℕ) → n ≤ p → p < g .e → (t : Bool) → t ≡ unused w (g .h) p → t ≡ false → tested ≡ false
+  places-used p o l t e z =
+      false-is tested (λ v. not-so (sym (every-each (g .e) (fine w g next n) v p l) ∙ fine-not p o ∙ sym e ∙ z))
+
+  pub places-all : ((q : ℕ) → 0 ≤ q → q < n → goodPlace w g next n q ≡ true) → ((q : ℕ) → n ≤ q → q < g .e → unused w (g .h) q ≡ true)
+      → tested ≡ true
+  places-all a b =
+      each-every (g .e) (fine w g next n) (λ q o.
+      ⊎-elim
+      (λ t. let l : q < n = ltb-true q n t in fine-good q l ∙ a q (omega arith) l)
+      (λ t. let l : n ≤ q = ltb-false q n t in fine-not q l ∙ b q l o)
+      (either-way (ltb q n)))

@@ -1,112 +1,122 @@
--- Stale stripes: the lowest, found by going through the places; whether one is stale, by its blocks.
+-- Stale stripes of a list that passes number 3: the lowest is that of place 0. Whether one is stale, by its blocks. Where one is not, the list
+-- without its entries is the list as it is.
 -- Assumes nothing.
-use mathlib.Core.Bool.{Bool, true, _&&_}
+use mathlib.Core.Bool.{true, false}
 use mathlib.Core.List.{List}
-use mathlib.Core.Logic.{⊎-elim, _≢_}
-use mathlib.Core.Path.{_≡_, sym, ap, ap₂, _∙_, subst}
+use mathlib.Core.Logic.{_≢_}
+use mathlib.Core.Path.{_≡_, refl, sym, ap, _∙_}
 use Prim.Native.Nat.{ℕ, _+_, _*_, _-_, _/_, _%_, _≤_, _<_}
-use native.Mathlib.Nat.{mod-lt}
+use native.Mathlib.Nat.{mod-lt, mul-comm, div-lt-iff-lt-mul}
 use native.Mathlib.Omega.{arith}
-use lib.Dec.{eqb, ltb}
-use borrow.Author.Tests.{eq-eqb, ne-eqb, lt-ltb, le-ltb, eqb-true, ltb-true, ltb-false}
+use lib.Dec.{ltb}
+use lib.ListN.{length, getD}
+use borrow.Author.Tests.{lt-ltb, le-ltb, ltb-true}
 use Rattle.shelf.specs.declared.record.Geometry.{Geometry}
 use Rattle.shelf.specs.Counting.{any, first}
-use Rattle.shelf.specs.HashList.{addressAt, lookup, valid, staleIn, listedIn}
-use Rattle.shelf.specs.Checking.{lowerStale}
-use Rattle.shelf.proofs.general.TestLaws.{either-way, not-so, false-is, and-both, choose-true, choose-false}
-use Rattle.shelf.proofs.general.AddressLaws.{stripe-of, address-is}
+use Rattle.shelf.specs.HashList.{addressAt, lookup, valid, staleIn, listedIn, Entry, entryIn, entries, encode}
+use Rattle.shelf.specs.Rewriting.{dropStripe, Rewritten}
+use Rattle.shelf.specs.Words.{words, bytesOf}
+use Rattle.shelf.proofs.general.TestLaws.{clash, false-is}
+use Rattle.shelf.proofs.general.AddressLaws.{stripe-of, address-is, stripe-up}
 use Rattle.shelf.proofs.general.WalkLaws.{any-turn, any-least, first-is}
 use Rattle.shelf.proofs.general.CountLaws.{any-some}
-use Rattle.shelf.proofs.hashlist.FoundLaws.{found-address}
+use Rattle.shelf.proofs.hashlist.DecodeLaws.{InE, Stands}
+use Rattle.shelf.proofs.hashlist.ListMeaning.{nothing-stale}
+use Rattle.shelf.proofs.hashlist.FoundLaws.{fit-of, entries-taken, entries-rising, entries-fits, entries-count, list-is, found-in, found-address, has-listed}
+use Rattle.shelf.proofs.hashlist.GatherLaws.{drop-none}
+use Rattle.shelf.proofs.hashlist.WordLaws.{bytes-words}
+use Rattle.shelf.proofs.hashlist.CheckLaws.{stands-in, stands-at, rising-up, up-from}
 
--- ---- the tests of lower_stale
+module _ (w : List ℕ) (g : Geometry) (next listed : ℕ) (hpos : 0 < g .h) (dpos : 0 < g .d) (small : g .e ≤ 4096)
+    (v : valid w g next listed ≡ true) where
+  abbrev A : ℕ → ℕ
+  A q = addressAt w (g .h) q
 
-module _ (w : List ℕ) (g : Geometry) (p x a : ℕ) (q : a ≡ addressAt w (g .h) p) where
-  abbrev at : ℕ
-  at = addressAt w (g .h) p
+  stand : Stands w (g .h) 0 (entries w g)
+  stand = entries-taken w g .0
 
-  pub stale-high : x ≤ a / g .d → lowerStale w g p x ≡ x
-  unfolding lowerStale
-  stale-high h =
-      choose-false (ltb (at / g .d) x && eqb (lookup w g at) p) (at / g .d) x
-      (ap (λ (t : Bool). t && eqb (lookup w g at) p) (le-ltb (at / g .d) x (rw q at h)))
+  -- addresses rise over the listed places
+  up : (p : ℕ) → p + 1 < length (entries w g) → A p < A (p + 1)
+  up p o = rising-up w (g .h) 0 0 (entries w g) stand (entries-rising w g next listed hpos dpos small v) p (omega arith) (omega arith)
 
-  pub stale-other : a / g .d < x → (r : ℕ) → r ≡ lookup w g a → r ≢ p → lowerStale w g p x ≡ x
-  unfolding lowerStale
-  stale-other h r e n =
-      choose-false (ltb (at / g .d) x && eqb (lookup w g at) p) (at / g .d) x
-      (ap₂ _&&_ (lt-ltb (at / g .d) x (rw q at h)) (ne-eqb (lookup w g at) p (λ z. n (e ∙ ap (λ (j : ℕ). lookup w g j) q ∙ z))))
+  in-list : (q : ℕ) → q < length (entries w g) → InE (entryIn w (g .h) q) (entries w g)
+  in-list q o = stands-in w (g .h) 0 (entries w g) q stand (omega arith) (omega arith)
 
-  pub stale-lower : a / g .d < x → (r : ℕ) → r ≡ lookup w g a → r ≡ p → lowerStale w g p x ≡ a / g .d
-  unfolding lowerStale
-  stale-lower h r e n =
-      choose-true (ltb (at / g .d) x && eqb (lookup w g at) p) (at / g .d) x
-      (ap₂ _&&_ (lt-ltb (at / g .d) x (rw q at h)) (eq-eqb (lookup w g at) p (sym (e ∙ ap (λ (j : ℕ). lookup w g j) q) ∙ n)))
-      ∙ ap (λ (j : ℕ). j / g .d) (sym q)
+  -- its block is listed, and its stripe is stale and below s
+  listed-at : (q : ℕ) → q < length (entries w g) → lookup w g (A q) < g .e
+  listed-at q o = has-listed w g next listed hpos dpos small v (A q) (record { who = entryIn w (g .h) q; within = in-list q o; is = refl })
 
--- ---- the turns of lowest_stale
+  stripe-low : (q : ℕ) → q < length (entries w g) → A q / g .d < g .s
+  stripe-low q o =
+      div-lt-iff-lt-mul dpos .1 (rw (mul-comm (g .s) (g .d))
+      (fit-of g next (entries w g) (entries w g) (entries-fits w g next listed hpos dpos small v) (entryIn w (g .h) q) (in-list q o) .below))
 
--- the stripe of a listed place is stale
-stale-at : (w : List ℕ) (g : Geometry) (p : ℕ) → 0 < g .d → p < g .e → lookup w g (addressAt w (g .h) p) ≡ p
-    → staleIn w g (addressAt w (g .h) p / g .d) ≡ true
-unfolding staleIn
-stale-at w g p dpos o q =
-    let a : ℕ = addressAt w (g .h) p in
-    any-some (g .d) (listedIn w g (a / g .d)) (a % g .d) (mod-lt a dpos)
-    (lt-ltb (lookup w g (a / g .d * g .d + a % g .d)) (g .e) (rw (address-is a (g .d)) (rw q o)))
+  stale-at : (q : ℕ) → q < length (entries w g) → staleIn w g (A q / g .d) ≡ true
+  unfolding staleIn
+  stale-at q o =
+      any-some (g .d) (listedIn w g (A q / g .d)) (A q % g .d) (mod-lt (A q) dpos)
+      (lt-ltb (lookup w g (A q / g .d * g .d + A q % g .d)) (g .e) (rw (address-is (A q) (g .d)) (listed-at q o)))
 
--- x is the lowest stripe of the listed places below p, or s
-pub record Lowest (w : List ℕ) (g : Geometry) (p x : ℕ) : Type 0 where
-  pub most : x ≤ g .s
-  pub is-stale : x < g .s → staleIn w g x ≡ true
-  pub least : (q : ℕ) → q < p → lookup w g (addressAt w (g .h) q) ≡ q → x ≤ addressAt w (g .h) q / g .d
+  -- the place of a listed block
+  record Held (a : ℕ) : Type 0 where
+    place : ℕ
+    under : place < length (entries w g)
+    is : A place ≡ a
 
-pub lowest-start : (w : List ℕ) (g : Geometry) → Lowest w g 0 (g .s)
-lowest-start w g = record { most = omega arith; is-stale = λ o. absurd (omega arith); least = λ q o l. absurd (omega arith) }
+  held-at : (a : ℕ) → lookup w g a < g .e → Held a
+  held-at a o =
+      let t = stands-at w (g .h) 0 (entries w g) _ stand (found-in w g next listed hpos dpos small v a o) in
+      record {
+        place = t .place;
+        under = let u : t .place < 0 + length (entries w g) = t .under in omega arith;
+        is = ap (λ (y : Entry). y .address) (sym (t .is)) ∙ found-address w g next listed hpos dpos small v a o;
+      }
 
-pub lowest-turn : (w : List ℕ) (g : Geometry) (p x y : ℕ) → 0 < g .d → p < g .e → Lowest w g p x → y ≡ lowerStale w g p x
-    → Lowest w g (p + 1) y
-unfolding lowerStale
-lowest-turn w g p x y dpos o l e =
-    ⊎-elim
-    (λ t.
-    let b = and-both (ltb (at / g .d) x) (eqb (lookup w g at) p) t in
-    let lo : at / g .d < x = ltb-true (at / g .d) x (b .0) in
-    let is : lookup w g at ≡ p = eqb-true (lookup w g at) p (b .1) in
-    let m : x ≤ g .s = l .most in
-    subst (λ (z : ℕ). Lowest w g (p + 1) z) (sym (e ∙ choose-true (ltb (at / g .d) x && eqb (lookup w g at) p) (at / g .d) x t))
-    (record {
-      most = omega arith;
-      is-stale = λ k. stale-at w g p dpos o is;
-      least = λ q h z.
-          ⊎-elim
-          (λ k. let f : x ≤ addressAt w (g .h) q / g .d = l .least q (ltb-true q p k) z in omega arith)
-          (λ k. let f : p ≤ q = ltb-false q p k in let n : p ≡ q = omega arith in
-          subst (λ (r : ℕ). at / g .d ≤ addressAt w (g .h) r / g .d) n (omega arith))
-          (either-way (ltb q p));
-    }))
-    (λ t.
-    subst (λ (z : ℕ). Lowest w g (p + 1) z) (sym (e ∙ choose-false (ltb (at / g .d) x && eqb (lookup w g at) p) (at / g .d) x t))
-    (record {
-      most = l .most;
-      is-stale = l .is-stale;
-      least = λ q h z.
-          ⊎-elim
-          (λ k. l .least q (ltb-true q p k) z)
-          (λ k.
-          let f : p ≤ q = ltb-false q p k in
-          let n : q ≡ p = omega arith in
-          ⊎-elim
-          (λ u. absurd (not-so (sym (ap₂ _&&_ u (eq-eqb (lookup w g at) p (subst (λ (r : ℕ). lookup w g (addressAt w (g .h) r) ≡ r) n z)))
-          ∙ t)))
-          (λ u. subst (λ (r : ℕ). x ≤ addressAt w (g .h) r / g .d) (sym n) (ltb-false (at / g .d) x u))
-          (either-way (ltb (at / g .d) x)))
-          (either-way (ltb q p));
-    }))
-    (either-way (ltb (at / g .d) x && eqb (lookup w g at) p))
-  where
-    at : ℕ
-    at = addressAt w (g .h) p
+  -- ---- the lowest
+
+  pub lowest-none : listed ≡ 0 → g .s ≡ first (g .s) (staleIn w g)
+  lowest-none z =
+      first-is (g .s) (staleIn w g) (g .s) (omega arith) (λ o. absurd (omega arith)) (λ x o. nothing-stale w g next listed hpos dpos small v z x o)
+
+  pub lowest-first : listed ≢ 0 → A 0 / g .d ≡ first (g .s) (staleIn w g)
+  unfolding staleIn
+  lowest-first n =
+      let some : 0 < length (entries w g) = omega (arith, entries-count w g next listed hpos dpos small v, n) in
+      let low : A 0 / g .d < g .s = stripe-low 0 some in
+      first-is (g .s) (staleIn w g) (A 0 / g .d) (omega arith) (λ o. stale-at 0 some) (λ x o.
+      false-is (any (g .d) (listedIn w g x)) (λ t.
+      let r = any-least (g .d) (listedIn w g x) t in
+      let h = held-at (x * g .d + r .index) (ltb-true (lookup w g (x * g .d + r .index)) (g .e) (r .is)) in
+      let u : h .place < length (entries w g) = h .under in
+      let m = up-from A (length (entries w g)) up 0 (h .place) (omega arith) u in
+      let y : A 0 / g .d ≤ A (h .place) / g .d = stripe-up (A 0) (A (h .place)) (g .d) dpos (omega arith) in
+      let is : A (h .place) / g .d ≡ x = ap (λ (j : ℕ). j / g .d) (h .is) ∙ stripe-of x (g .d) (r .index) (r .under) in
+      omega arith))
+
+  -- ---- a stripe that is not stale
+
+  -- it has no entry
+  unstale-drop : (k : ℕ) → staleIn w g k ≡ false → dropStripe (g .d) k (entries w g) ≡ entries w g
+  unfolding staleIn
+  unstale-drop k s =
+      drop-none (g .d) k (entries w g) (λ x i q.
+      let a : ℕ = x .address in
+      let is : k * g .d + a % g .d ≡ a = ap (λ (j : ℕ). j * g .d + a % g .d) (sym q) ∙ address-is a (g .d) in
+      let there : lookup w g a < g .e = has-listed w g next listed hpos dpos small v a (record { who = x; within = i; is = refl }) in
+      clash (any-some (g .d) (listedIn w g k) (a % g .d) (mod-lt a dpos)
+      (ap (λ (j : ℕ). ltb (lookup w g j) (g .e)) is ∙ lt-ltb (lookup w g a) (g .e) there)) s)
+
+-- the list's bytes are those of the list without it
+pub unstale-rewritten : (l : List ℕ) (g : Geometry) (next listed : ℕ) → 0 < g .h → 0 < g .d → g .e ≤ 4096
+    → valid (words l) g next listed ≡ true → length l ≡ 4 * (g .h + 4 * g .e) → ((i : ℕ) → getD l i 0 < 256) → (k : ℕ)
+    → staleIn (words l) g k ≡ false → Rewritten g (dropStripe (g .d) k (entries (words l) g)) l listed
+unstale-rewritten l g next listed hpos dpos small v len low k s =
+    let same = sym (unstale-drop (words l) g next listed hpos dpos small v k s) in
+    let is : words l ≡ encode g (dropStripe (g .d) k (entries (words l) g)) =
+    list-is (words l) g next listed hpos dpos small v ∙ ap (encode g) same in (
+      sym (bytes-words l (g .h + 4 * g .e) len low) ∙ ap bytesOf is,
+      (is, sym (entries-count (words l) g next listed hpos dpos small v) ∙ ap length same),
+    )
 
 -- ---- the turns of is_stale: the blocks of a stripe are gone through from the last to the first
 pub lower-listed : (w : List ℕ) (g : Geometry) (x k r : ℕ) → 0 < k → r ≡ lookup w g (x * g .d + (k - 1)) → r < g .e
@@ -118,20 +128,3 @@ pub lower-unlisted : (w : List ℕ) (g : Geometry) (x k r : ℕ) → 0 < k → r
     → any (k - 1) (listedIn w g x) ≡ any k (listedIn w g x)
 lower-unlisted w g x k r o e l =
     any-turn k (k - 1) (listedIn w g x) (omega arith) (le-ltb (lookup w g (x * g .d + (k - 1))) (g .e) (rw e at l))
-
--- ---- a list that passes number 3
-
-module _ (w : List ℕ) (g : Geometry) (next listed : ℕ) (hpos : 0 < g .h) (dpos : 0 < g .d) (small : g .e ≤ 4096)
-    (v : valid w g next listed ≡ true) where
-  pub lowest-done : (p x : ℕ) → g .e ≤ p → Lowest w g p x → x ≡ first (g .s) (staleIn w g)
-  unfolding staleIn
-  lowest-done p x o l =
-      first-is (g .s) (staleIn w g) x (l .most) (l .is-stale) (λ z h.
-      false-is (any (g .d) (listedIn w g z)) (λ t.
-      let r = any-least (g .d) (listedIn w g z) t in
-      let there : lookup w g (z * g .d + r .index) < g .e = ltb-true (lookup w g (z * g .d + r .index)) (g .e) (r .is) in
-      let q : ℕ = lookup w g (z * g .d + r .index) in
-      let a : addressAt w (g .h) q ≡ z * g .d + r .index = found-address w g next listed hpos dpos small v (z * g .d + r .index) there in
-      let b : x ≤ addressAt w (g .h) q / g .d = l .least q (omega arith) (ap (λ (j : ℕ). lookup w g j) a) in
-      let s : addressAt w (g .h) q / g .d ≡ z = ap (λ (j : ℕ). j / g .d) a ∙ stripe-of z (g .d) (r .index) (r .under) in
-      omega arith))

@@ -3,7 +3,7 @@
 use mathlib.Core.Bool.{false}
 use mathlib.Core.List.{List, []}
 use mathlib.Core.Option.{none}
-use mathlib.Core.Path.{_≡_, refl, sym, ap, _∙_}
+use mathlib.Core.Path.{_≡_, refl, sym, ap, _∙_, subst}
 use Prim.Native.Nat.{ℕ, zero, suc, _+_, _*_, _<_}
 use native.Mathlib.Omega.{arith}
 use lib.ListN.{length, getD, replicate, length-replicate}
@@ -16,13 +16,14 @@ use Rattle.shelf.specs.Members.{InRange, blank, addressOf}
 use Rattle.shelf.specs.State.{freshState, listed, isSome}
 use Rattle.shelf.specs.Book.{freshBook}
 use Rattle.shelf.specs.Words.{words}
-use Rattle.shelf.specs.HashList.{noneWord, Entry, said, valid}
-use Rattle.shelf.specs.Rewriting.{encode}
+use Rattle.shelf.specs.HashList.{noneWord, Entry, said, valid, encode}
 use Rattle.shelf.specs.Lent.{recordAt, arrayBlock, arrayLength, logLength, listLength, flagsFrom, roleBlock, formatted, Leaves}
 use Rattle.shelf.specs.declared.record.Geometry.{Geometry}
 use Rattle.shelf.proofs.hashlist.WordLaws.{words-bytes}
 use Rattle.shelf.proofs.lent.FormatLaws.{none-bytes}
 use Rattle.shelf.proofs.hashlist.ListMeaning.{encode-none, none-valid, none-said}
+use Rattle.shelf.specs.Showing.{HoldsList}
+use Rattle.shelf.proofs.lent.ListLayout.{list-laid}
 use Rattle.shelf.proofs.lent.LayoutLaws.{array-is, log-is, role-data, role-p, role-q, by-role}
 use Rattle.shelf.proofs.agreement.ListedLaws.{no-marks}
 use Rattle.shelf.proofs.agreement.Agreement.{fresh-agrees}
@@ -60,6 +61,30 @@ none-record : recordAt noneWord ≡ none
 unfolding recordAt choose
 none-record = refl
 
+-- every byte of a list of nones is below 256
+pub full-bytes : (n i : ℕ) → getD {A = ℕ} (replicate n 255) i 0 < 256
+full-bytes zero i = omega arith
+full-bytes (suc n) zero = omega arith
+full-bytes (suc n) (suc i) = full-bytes n i
+
+-- it passes number 3 and says nothing
+pub fresh-says : (g : Geometry) → InRange g → HoldsList g (freshState g) 0 (formatted g .list)
+unfolding freshState
+fresh-says g Y =
+    record {
+      length-of = none-length g;
+      passes = ap (λ (w : List ℕ). valid w g 0 0) (none-words g) ∙ none-valid g 0 (Y .h-least) (Y .e-most);
+      ori = λ x i _ _. ap (λ (e : Entry). recordAt (e .ori)) (none-here x i) ∙ none-record;
+      cur = λ x i _ _. ap (λ (e : Entry). recordAt (e .cur)) (none-here x i) ∙ none-record;
+    }
+  where
+    none-here : (x i : ℕ) → said (words (formatted g .list)) g (addressOf g x i) ≡ record { address = addressOf g x i; ori = noneWord; cur = noneWord }
+    none-here x i = ap (λ (w : List ℕ). said w g (addressOf g x i)) (none-words g) ∙ none-said g (addressOf g x i) (Y .h-least) (Y .e-most)
+
+none-below : (g : Geometry) (i : ℕ) → getD (formatted g .list) i 0 < 256
+unfolding formatted
+none-below g i = subst (λ (l : List ℕ). getD l i 0 < 256) (sym (none-bytes (g .h + 4 * g .e))) (full-bytes (4 * (g .h + 4 * g .e)) i)
+
 -- ---- the shelf
 
 pub fresh-leaves : (g : Geometry) → InRange g → Leaves g (freshState g) (formatted g)
@@ -72,14 +97,8 @@ fresh-leaves g Y =
           let blanks : blank g ≡ arrayBlock g (replicate (arrayLength g) 0) x i = sym (block-zeros g (place (g .d) (g .s) x i) ((g .d + 2) * g .s) (place-lt (g .d) (g .s) x i hx hi)) in
           by-role g (λ j. roleBlock g (freshState g) x j ≡ blank g) (λ j hj. role-data g (freshState g) x j hj) (role-p g (freshState g) x) (role-q g (freshState g) x) i hi ∙ blanks);
       log = log-is g (freshState g) (replicate (logLength g) 0) (length-replicate (logLength g) 0) (λ r hr. sym (block-zeros g r (g .l) hr));
-      length-of = none-length g;
-      passes = ap (λ (w : List ℕ). valid w g 0 0) (none-words g) ∙ none-valid g 0 (Y .h-least) (Y .e-most);
-      ori = λ x i _ _. ap (λ (e : Entry). recordAt (e .ori)) (none-here x i) ∙ none-record;
-      cur = λ x i _ _. ap (λ (e : Entry). recordAt (e .cur)) (none-here x i) ∙ none-record;
+      list = list-laid g (freshState g) 0 (formatted g .list) Y (fresh-says g Y) (none-below g);
     }
-  where
-    none-here : (x i : ℕ) → said (words (formatted g .list)) g (addressOf g x i) ≡ record { address = addressOf g x i; ori = noneWord; cur = noneWord }
-    none-here x i = ap (λ (w : List ℕ). said w g (addressOf g x i)) (none-words g) ∙ none-said g (addressOf g x i) (Y .h-least) (Y .e-most)
 
 pub fresh-holds : (g : Geometry) → InRange g → Holds (formatted g) (freshBook g)
 fresh-holds g Y = leaves-holds Y (fresh-agrees g) (formatted g) (fresh-leaves g Y)

@@ -5,7 +5,7 @@ use mathlib.Core.Bool.{Bool, true, false, _||_}
 use mathlib.Core.List.{List}
 use mathlib.Core.Option.{Option}
 use mathlib.Core.Path.{_≡_, refl, sym, ap, ap₂, _∙_, subst, fun-ext}
-use Prim.Native.Nat.{ℕ, zero, suc, _+_, _-_, _≤_, _<_}
+use Prim.Native.Nat.{ℕ, zero, suc, _+_, _-_, _≤_}
 use native.Mathlib.Decide.{decLt, ℕ-discrete}
 use native.Mathlib.Omega.{arith}
 use lib.Dec.{eqb, ltb, leb}
@@ -20,7 +20,8 @@ use Rattle.shelf.specs.Calls.{code}
 use Rattle.shelf.specs.Book.{Book, bookCode, bookAfter}
 use Rattle.shelf.specs.Words.{words}
 use Rattle.shelf.specs.HashList.{valid}
-use Rattle.shelf.specs.Lent.{Lent, lent, flag, flagFrom, flagAt, stateOf, arrayLength, logLength, listLength, numberOf, recordOf, flagsOf, arrayOf, logOf, Leaves, Answered}
+use Rattle.shelf.specs.Lent.{Lent, lent, flag, flagFrom, flagAt, stateOf, arrayLength, logLength, listLength, numberOf, recordOf, flagsOf, listedBy, arrayOf, logOf, listOf, Leaves, Answered}
+use Rattle.shelf.specs.Showing.{HoldsList}
 use Rattle.shelf.specs.Sequence.{Fed, Changed}
 use Rattle.shelf.specs.declared.record.Geometry.{Geometry}
 use Rattle.shelf.specs.declared.record.Shelf.{Shelf}
@@ -28,6 +29,7 @@ use Rattle.shelf.proofs.general.TestLaws.{and-fine}
 use Rattle.shelf.proofs.general.CountLaws.{none-any}
 use Rattle.shelf.proofs.numbers.InputLaws.{Fine, record-fine, Passed, passed-number}
 use Rattle.shelf.proofs.lent.LayoutLaws.{array-length, array-back, log-length, log-back, role-data, role-p, role-q, flags-length, flag-back}
+use Rattle.shelf.proofs.lent.ListLayout.{laid-holds}
 use Rattle.shelf.proofs.agreement.ListedLaws.{marksIn-ext}
 use Rattle.shelf.proofs.agreement.Agreement.{Agrees, Alike, alike-agrees}
 use Rattle.shelf.proofs.lent.HeldBlocks.{disk-block, p-block, q-block}
@@ -110,8 +112,8 @@ number-book h b Y H c =
 
 -- ---- a state that was left behind is read back
 
-pub leaves-is : (g : Geometry) (s : State) (h : Lent) → Leaves g s h → h ≡ lent (recordOf g s) (arrayOf g s) (logOf g s) (h .list)
-leaves-is g s h L = λ i. record { shelf = L .shelf i; array = L .array i; log = L .log i; list = h .list }
+pub leaves-is : (g : Geometry) (s : State) (h : Lent) → Leaves g s h → h ≡ lent (recordOf g s) (arrayOf g s) (logOf g s) (listOf g s)
+leaves-is g s h L = λ i. record { shelf = L .shelf i; array = L .array i; log = L .log i; list = L .list i }
 
 flags-back : (f : ℕ → Bool) → ((i : ℕ) → 19 ≤ i → f i ≡ false) → (λ (i : ℕ). flag (flagsOf f) i) ≡ f
 flags-back f top =
@@ -120,10 +122,20 @@ flags-back f top =
       | no h ↦ List·getD-eq-default (flagsOf f) false (omega (arith, flags-length f)) ∙ sym (top i (omega arith))
     ])
 
-module _ {g : Geometry} (Y : InRange g) {s : State} {b : Book} (A : Agrees g s b) (l : List ℕ)
-    (oris : (x i : ℕ) → x < g .s → i < g .d → stateOf (lent (recordOf g s) (arrayOf g s) (logOf g s) l) .log .ori x i ≡ s .log .ori x i)
-    (curs : (x i : ℕ) → x < g .s → i < g .d → stateOf (lent (recordOf g s) (arrayOf g s) (logOf g s) l) .log .cur x i ≡ s .log .cur x i) where
-  laid-alike : Alike g s (stateOf (lent (recordOf g s) (arrayOf g s) (logOf g s) l))
+module _ {g : Geometry} (Y : InRange g) {s : State} {b : Book} (A : Agrees g s b) where
+  -- the list that the state is laid out as
+  listing : HoldsList g s (marksIn g (listed (s .log))) (listOf g s)
+  listing =
+      let N = A .near in
+      laid-holds g s Y (record {
+        oris = λ x i hx hi r e. N .noted .oris x i hx hi r e .0;
+        curs = λ x i hx hi r e. N .noted .curs x i hx hi r e .0;
+        whole = N .whole;
+        room = A .valid .room;
+        few = A .valid .fits;
+      })
+
+  laid-alike : Alike g s (stateOf (lent (recordOf g s) (arrayOf g s) (logOf g s) (listOf g s)))
   unfolding stateOf
   laid-alike =
       record {
@@ -133,33 +145,30 @@ module _ {g : Geometry} (Y : InRange g) {s : State} {b : Book} (A : Agrees g s b
         q = λ x hx f. array-back g s x (g .d + 1) hx (omega arith) (ap length (role-q g s x) ∙ q-block A x hx f .0) ∙ role-q g s x;
         log = λ r hr f e. log-back g s r hr e;
         next = refl;
-        ori = oris;
-        cur = curs;
+        ori = listing .ori;
+        cur = listing .cur;
         mode = refl;
         failed = flags-back (s .failed) (λ i h. A .valid .top i (omega (arith, Y .d-most)));
       }
 
--- and holds
-pub leaves-holds : {g : Geometry} → InRange g → {s : State} {b : Book} → Agrees g s b → (h : Lent) → Leaves g s h → Holds h b
-leaves-holds {g} Y {s} {b} A h L =
-    subst (λ (k : Lent). Holds k b) (sym (leaves-is g s h L)) (record {
-      agrees = alike-agrees (laid-alike Y A (h .list) oris curs) A;
-      listed-are = sym (marksIn-ext g (listed (stateOf k .log)) (listed (s .log)) (λ x i hx hi. ap₂ (λ (o c : Option ℕ). isSome o || isSome c) (oris x i hx hi) (curs x i hx hi)));
-      flags = flags-length (s .failed);
-      array = array-length g s;
-      log = log-length g s;
-      list = L .length-of;
-      passes = subst (λ (r : Shelf). valid (words (h .list)) g (r .next) (r .listed) ≡ true) (L .shelf) (L .passes);
-    })
-  where
-    k : Lent
-    k = lent (recordOf g s) (arrayOf g s) (logOf g s) (h .list)
+  laid-marks : marksIn g (listed (s .log)) ≡ marksIn g (listed (stateOf (lent (recordOf g s) (arrayOf g s) (logOf g s) (listOf g s)) .log))
+  unfolding stateOf
+  laid-marks =
+      sym (marksIn-ext g (listedBy g (listOf g s)) (listed (s .log))
+      (λ x i hx hi. ap₂ (λ (o c : Option ℕ). isSome o || isSome c) (listing .ori x i hx hi) (listing .cur x i hx hi)))
 
-    oris : (x i : ℕ) → x < g .s → i < g .d → stateOf (lent (recordOf g s) (arrayOf g s) (logOf g s) (h .list)) .log .ori x i ≡ s .log .ori x i
-    oris x i hx hi = unfold stateOf in L .ori x i hx hi
-
-    curs : (x i : ℕ) → x < g .s → i < g .d → stateOf (lent (recordOf g s) (arrayOf g s) (logOf g s) (h .list)) .log .cur x i ≡ s .log .cur x i
-    curs x i hx hi = unfold stateOf in L .cur x i hx hi
+  -- and holds
+  pub leaves-holds : (h : Lent) → Leaves g s h → Holds h b
+  leaves-holds h L =
+      subst (λ (k : Lent). Holds k b) (sym (leaves-is g s h L)) (record {
+        agrees = alike-agrees laid-alike A;
+        listed-are = laid-marks;
+        flags = flags-length (s .failed);
+        array = array-length g s;
+        log = log-length g s;
+        list = listing .length-of;
+        passes = listing .passes;
+      })
 
 -- ---- failed members' bytes
 

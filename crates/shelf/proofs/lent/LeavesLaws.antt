@@ -22,6 +22,7 @@ use Rattle.shelf.specs.declared.record.Shelf.{Shelf}
 use Rattle.shelf.proofs.general.CountLaws.{setAt-here, setAt-other}
 use Rattle.shelf.proofs.numbers.InputLaws.{Passed, inputs-pass}
 use Rattle.shelf.proofs.lent.LayoutLaws.{array-is, log-is, role-data, role-p, role-q, by-role, flags-are}
+use Rattle.shelf.proofs.lent.ListLayout.{list-laid}
 use Rattle.shelf.proofs.hashlist.ListMarks.{marks-listed}
 
 -- a state with another mode and other failed members
@@ -35,11 +36,11 @@ module _ (r : Shelf) (a n l : List ℕ) (P : Passed r (length a) (length n) l) w
   marks-here = marks-listed (r .geometry) l (r .next) (r .listed) (P .range) (P .valid)
 
   -- the same buffers with a record of the same geometry, next and count
-  pub leaves-here : (m : ℕ) (fs : List Bool) (f : ℕ → Bool) → fs ≡ flagsOf f
+  pub leaves-here : ((i : ℕ) → getD l i 0 < 256) → (m : ℕ) (fs : List Bool) (f : ℕ → Bool) → fs ≡ flagsOf f
       → Leaves (r .geometry) (turned (stateOf (lent r a n l)) m f)
       (lent (record { geometry = r .geometry; mode = m; next = r .next; listed = r .listed; failed = fs }) a n l)
   unfolding stateOf
-  leaves-here m fs f e =
+  leaves-here bytes m fs f e =
       record {
         shelf = λ i. record { geometry = r .geometry; mode = m; next = r .next; listed = sym marks-here i; failed = e i };
         array = array-is (r .geometry) (turned (stateOf (lent r a n l)) m f) a (P .range .s-least) (P .array)
@@ -48,10 +49,8 @@ module _ (r : Shelf) (a n l : List ℕ) (P : Passed r (length a) (length n) l) w
             (λ j hj. role-data (r .geometry) (turned (stateOf (lent r a n l)) m f) x j hj) (role-p (r .geometry) (turned (stateOf (lent r a n l)) m f) x)
             (role-q (r .geometry) (turned (stateOf (lent r a n l)) m f) x) i hi);
         log = log-is (r .geometry) (turned (stateOf (lent r a n l)) m f) n (P .log) (λ k _. refl);
-        length-of = P .list;
-        passes = P .valid;
-        ori = λ x i _ _. refl;
-        cur = λ x i _ _. refl;
+        list = list-laid (r .geometry) (turned (stateOf (lent r a n l)) m f) (r .listed) l (P .range)
+            (record { length-of = P .list; passes = P .valid; ori = λ x i _ _. refl; cur = λ x i _ _. refl }) bytes;
       }
 
 -- flags by their members
@@ -69,17 +68,16 @@ set-flags fs j t e h =
 -- ---- the three calls, accepted; and any call, refused
 
 pub refused-answered : (h : Lent) (c : Call) (code : ℕ) → code ≡ numberOf (h .shelf) (length (h .array)) (length (h .log)) (h .list) c → code ≢ 0 → Answered h c code h
-refused-answered h c code e z = record { number = e; done = λ q. absurd (z q); unaltered = λ q. absurd (z q); refused = λ _. refl }
+refused-answered h c code e z = record { number = e; done = λ q. absurd (z q); refused = λ _. refl }
 
-module _ (r : Shelf) (a n l : List ℕ) (len : length (r .failed) ≡ 19) where
+module _ (r : Shelf) (a n l : List ℕ) (len : length (r .failed) ≡ 19) (bytes : (i : ℕ) → getD l i 0 < 256) where
   pub start-answered : 0 ≡ numberOf r (length a) (length n) l start → Answered (lent r a n l) start 0 (lent (withMode r 1) a n l)
   unfolding numberOf work triesList stateOf
   start-answered e =
       let P = inputs-pass r (length a) (length n) l _ (sym e) .0 in
       record {
         number = e;
-        done = λ _. leaves-here r a n l P 1 (r .failed) (flagAt r) (same-flags (r .failed) len);
-        unaltered = λ _ _. refl;
+        done = λ _. leaves-here r a n l P bytes 1 (r .failed) (flagAt r) (same-flags (r .failed) len);
         refused = λ z. absurd (z refl);
       }
 
@@ -93,8 +91,7 @@ module _ (r : Shelf) (a n l : List ℕ) (len : length (r .failed) ≡ 19) where
         number = e;
         done = λ _.
             subst (λ (m : ℕ). Leaves (r .geometry) (turned (stateOf (lent r a n l)) m (setAt j true (flagAt r))) (lent (withFailed r j) a n l)) q
-            (leaves-here r a n l P (modeThen r j) (set (r .failed) j true) (setAt j true (flagAt r)) (set-flags (r .failed) j true len h));
-        unaltered = λ _ _. refl;
+            (leaves-here r a n l P bytes (modeThen r j) (set (r .failed) j true) (setAt j true (flagAt r)) (set-flags (r .failed) j true len h));
         refused = λ z. absurd (z refl);
       }
 
@@ -106,8 +103,7 @@ module _ (r : Shelf) (a n l : List ℕ) (len : length (r .failed) ≡ 19) where
       record {
         number = e;
         done = λ _.
-            leaves-here r a n l P (r .mode) (set (r .failed) (r .geometry .d + 2) false) (setAt (r .geometry .d + 2) false (flagAt r))
+            leaves-here r a n l P bytes (r .mode) (set (r .failed) (r .geometry .d + 2) false) (setAt (r .geometry .d + 2) false (flagAt r))
             (set-flags (r .failed) (r .geometry .d + 2) false len h);
-        unaltered = λ _ _. refl;
         refused = λ z. absurd (z refl);
       }

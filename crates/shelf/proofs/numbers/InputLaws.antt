@@ -216,6 +216,7 @@ measures-of g l Y e =
       s1 = Y .s-most;
       h0 = omega (arith, Y .h-least);
       h1 = Y .h-most;
+      e0 = Y .e-least;
       e1 = Y .e-most;
       len = omega (arith, e);
     }

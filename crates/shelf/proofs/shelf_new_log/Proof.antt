@@ -8,7 +8,6 @@ use Rattle.shelf.specs.declared.record.Shelf.{Shelf}
 use native.Mathlib.Omega.{arith}
 use Prim.Native.Nat.{ℕ, _<_}
 use Rattle.shelf.specs.Status.{newLog}
-use Rattle.shelf.specs.Members.{logMember}
 use Rattle.shelf.specs.Records.{withRenewed}
 use Rattle.shelf.proofs.numbers.CodeLaws.{new-log-bounds}
 use Rattle.shelf.proofs.lent.LeavesLaws.{new-log-answered, refused-answered}
@@ -42,7 +41,7 @@ returns-2 c =
     let done = sym (c .before .before .if1 .left) ∙ c .before .before .before .new-log-code .ensures in
     subst (λ (r : Shelf). Answered (lent (a .shelf) (a .array .now) (a .log .now) (a .list .now)) newLog 0 (lent r (a .array .now) (a .log .now) (a .list .now))) (sym (c .renew .ensures))
     (subst (λ (n : ℕ). Answered (lent (a .shelf) (a .array .now) (a .log .now) (a .list .now)) newLog 0 (lent (withRenewed (a .shelf) n) (a .array .now) (a .log .now) (a .list .now))) (sym (c .before .log-member .ensures))
-    (new-log-answered (a .shelf) (a .array .now) (a .log .now) (a .list .now) long (new-log-bounds (a .shelf) (length (a .array .now)) (length (a .log .now)) (a .list .now) done) done))
+    (new-log-answered (a .shelf) (a .array .now) (a .log .now) (a .list .now) long (λ i. omega (arith, c .before .before .before .before .before .shared-slice-known3 .given i)) (new-log-bounds (a .shelf) (length (a .array .now)) (length (a .log .now)) (a .list .now) done) done))
 
 pub shelf-new-log-spec : {M : Type 1} → statement M
 shelf-new-log-spec =

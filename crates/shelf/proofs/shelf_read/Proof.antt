@@ -1,6 +1,7 @@
 -- `shelf::shelf_read` meets its contract.
 -- Assumes nothing.
 use mathlib.Core.Path.{_≡_, refl, sym}
+use native.Mathlib.Omega.{arith}
 use lib.ListN.{length}
 use lib.Seq.{length-take-le}
 use Rattle.stripe.proofs.Laws.{no-products}
@@ -48,7 +49,7 @@ returns-2 : tie.Need-returns-2
 returns-2 c =
     let a = c .before .before .before .before .before .before .before .before .before .before .before .before .before .before .before in
     let long : length (a .args .shelf .failed) ≡ 19 = search needs in (
-      read-answered (a .args .shelf) (a .args .array .now) (a .args .log .now) (a .args .list .now) long (a .args .address) (a .args .count) (length (a .args .out .now)) (c .before .before .before .before .before .before .before .before .before .read-code .result) (c .before .before .before .before .before .before .before .before .before .read-code .ensures) (c .before .before .before .before .before .before .before .before .if1 .left),
+      read-answered (a .args .shelf) (a .args .array .now) (a .args .log .now) (a .args .list .now) long (a .args .address) (a .args .count) (length (a .args .out .now)) (c .before .before .before .before .before .before .before .before .before .read-code .result) (c .before .before .before .before .before .before .before .before .before .read-code .ensures) (c .before .before .before .before .before .before .before .before .if1 .left) (λ i. omega (arith, c .before .before .before .before .before .before .before .before .before .before .before .shared-slice-known3 .given i)),
       (λ _. c .before .before .before .before .read-blocks .ensures .0, λ z. absurd (z refl)),
     )
 

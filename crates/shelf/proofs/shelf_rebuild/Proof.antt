@@ -1,6 +1,7 @@
 -- `shelf::shelf_rebuild` meets its contract.
 -- Assumes nothing.
 use mathlib.Core.Path.{_∙_, sym}
+use native.Mathlib.Omega.{arith}
 use Rattle.shelf.specs.Lent.{lent}
 use Rattle.shelf.specs.Status.{rebuild}
 use Rattle.shelf.proofs.lent.LeavesLaws.{refused-answered}
@@ -44,7 +45,7 @@ same-length-3 c = search needs
 returns-2 : tie.Need-returns-2
 returns-2 c =
     let a = c .before .before .before .before .before .before .before .before .before .before .before .before .before .before .before .before .args in
-    rebuild-answered (a .shelf) (a .array .now) (a .log .now) (a .list .now) (sym (c .before .before .before .before .before .before .before .before .before .before .if1 .left) ∙ c .before .before .before .before .before .before .before .before .before .before .before .rebuild-code .ensures) (c .before .before .before .before .before .before .before .before .before .parity-failed .result) (c .before .before .before .before .before .before .before .before .before .parity-failed .ensures) (c .before .before .settle .result) (c .before .before .before .before .before .before .rebuild-array .last .1 .1 .0) (c .before .before .settle .last .1 .1 .0)
+    rebuild-answered (a .shelf) (a .array .now) (a .log .now) (a .list .now) (sym (c .before .before .before .before .before .before .before .before .before .before .if1 .left) ∙ c .before .before .before .before .before .before .before .before .before .before .before .rebuild-code .ensures) (λ i. omega (arith, c .before .before .before .before .before .before .before .before .before .before .before .before .before .slice-known2 .given i)) (c .before .before .before .before .before .before .before .before .before .parity-failed .result) (c .before .before .before .before .before .before .before .before .before .parity-failed .ensures) (c .before .before .settle .result) (c .before .before .before .before .before .before .rebuild-array .last .1 .1 .0) (c .before .before .settle .last .1 .1 .0)
     (c .before .before .before .before .before .before .rebuild-array .ensures) (c .before .before .settle .ensures .0) (c .before .before .settle .ensures .1)
 
 pub shelf-rebuild-spec : {M : Type 1} → statement M

@@ -20,8 +20,8 @@ use Rattle.shelf.specs.State.{State, isSome, listed, marksIn, freshState
 use Rattle.shelf.specs.Status.{Call, start, fail, write, read, resync, rebuild, newLog, fullResync, row, codeOf}
 use Rattle.shelf.specs.Calls.{settled, made, remade, reconstructs, appendOne, append, logged, writeStripe, written, writeTo, blockAt, resynced, rebuilt, work, code, after}
 use Rattle.shelf.specs.Words.{words, bytesOf}
-use Rattle.shelf.specs.HashList.{noneWord, seek, lookup, isRecord, allListed, goodEntry, goodStripe, good, follow, slots, counted, passes, valid, said}
-use Rattle.shelf.specs.Lent.{lent, flagAt, recordAt, stateOf, badRecord, badLengths, triesList, inputRows, numberOf, flagsFrom, recordOf, roleOf, arrayOf, logOf, readBuffer, formatCode, formatted}
+use Rattle.shelf.specs.HashList.{noneWord, seek, lookup, entriesFrom, entries, putFront, putAll, encode, rises, has, hasAll, isRecord, goodWords, goodEntry, allGood, same, valid, said}
+use Rattle.shelf.specs.Lent.{lent, flagAt, recordAt, stateOf, badRecord, badLengths, triesList, inputRows, numberOf, flagsFrom, recordOf, roleOf, arrayOf, logOf, wordOf, entriesOf, listOf, readBuffer, formatCode, formatted}
 use Rattle.shelf.specs.Lent as rows
 use Rattle.shelf.specs.Book.{Book, freshBook, closed, marked, usedThen, markStripe, markTo, bookWork, bookCode, bookAfter}
 use Rattle.shelf.specs.declared.record.Geometry.{Geometry}
@@ -213,6 +213,26 @@ k12List x =
 abbrev pub twiceListed : List ℕ
 twiceListed = bytesOf (noneWord ∷ 0 ∷ 1 ∷ 0 ∷ 1 ∷ 1 ∷ 1 ∷ 0 ∷ 1 ∷ noneWord ∷ replicate 8 noneWord)
 
+-- Blocks 1, 3 and 4 listed, with Ori 0, 2 and 0 and Cur 1, 3 and 3: slot 0 has block 4, slot 1 has blocks 1 and 3. The heads of both slots, the
+-- Next of places 0 to 2 and the words of place 3 are given
+abbrev pub arranged : ℕ → ℕ → ℕ → ℕ → ℕ → List ℕ → List ℕ
+arranged h0 h1 x0 x1 x2 rest = bytesOf (h0 ∷ h1 ∷ 1 ∷ 0 ∷ 1 ∷ x0 ∷ 3 ∷ 2 ∷ 3 ∷ x1 ∷ 4 ∷ 0 ∷ 3 ∷ x2 ∷ rest)
+
+-- the same blocks, those of places 0 and 1 changed over and the chain by them; and with place 1 left unused
+abbrev pub swapped : List ℕ
+swapped = bytesOf (2 ∷ 1 ∷ 3 ∷ 2 ∷ 3 ∷ noneWord ∷ 1 ∷ 0 ∷ 1 ∷ 0 ∷ 4 ∷ 0 ∷ 3 ∷ noneWord ∷ replicate 4 noneWord)
+
+abbrev pub gapped : List ℕ
+gapped =
+    bytesOf (3 ∷ 0 ∷ 1 ∷ 0 ∷ 1 ∷ 2 ∷ noneWord ∷ noneWord ∷ noneWord ∷ noneWord ∷ 3 ∷ 2 ∷ 3 ∷ noneWord ∷ 4 ∷ 0 ∷ 3 ∷ noneWord ∷ [])
+
+abbrev pub nones : List ℕ
+nones = replicate 4 noneWord
+
+-- the number of a read of address 1 where these three blocks are listed
+abbrev pub threeNumber : List ℕ → ℕ
+threeNumber l = readNumber (recordWith 1 4 3) l
+
 abbrev pub onBytes : List Example
 onBytes =
     -- the line of format: its number, then mode, listed and next of what it leaves
@@ -225,9 +245,10 @@ onBytes =
     (let h = formatted (small 3) in
     let n = numberOf (h .shelf) (length (h .array)) (length (h .log)) (h .list) in
     ex (n start ∷ n (read 5 1 1) ∷ n resync ∷ n rebuild ∷ n newLog ∷ n fullResync ∷ []) (0 ∷ 0 ∷ 7 ∷ 12 ∷ 12 ∷ 0 ∷ [])) ∷
-    -- after the write: array, log and record
+    -- after the write: array, log, list and record
     ex (arrayOf (small 3) afterWrite) array ∷
     ex (logOf (small 3) afterWrite) logBytes ∷
+    ex (listOf (small 3) afterWrite) (oneListed 1 0 1 noneWord) ∷
     ex
     (let r = recordOf (small 3) afterWrite in r .mode ∷ r .next ∷ r .listed ∷ count 19 (flagAt r) ∷ []) (1 ∷ 2 ∷ 1 ∷ 0 ∷ []) ∷
     -- the list then: block 1 with Ori 0 and Cur 1 passes, and is what the bytes say
@@ -253,10 +274,27 @@ onBytes =
     ∷ readNumber (recordWith 1 2 1) (oneListed 1 0 2 noneWord) ∷ readNumber (recordWith 1 2 1) (oneListed 1 noneWord noneWord noneWord)
     ∷ readNumber (recordWith 1 2 1) (oneListed 1 noneWord 1 noneWord) ∷ readNumber (recordWith 1 2 2) twiceListed ∷ [])
     (3 ∷ 3 ∷ 3 ∷ 3 ∷ 3 ∷ 3 ∷ 3 ∷ 3 ∷ 3 ∷ 3 ∷ []) ∷
+    -- three blocks in the one arrangement pass, and are laid out so again
+    (let l = arranged 2 0 1 noneWord noneWord nones in
+    ex (threeNumber l ∷ listOf (small 3) (stateOf (lent (recordWith 1 4 3) array logBytes l))) (0 ∷ l)) ∷
+    -- in any other they get 3: the chain falls; it repeats a place; it has a block of another slot; it leaves the list; a block is in no chain; two
+    -- places are changed over; one between them is unused
+    ex
+    (threeNumber (arranged 2 1 noneWord 0 noneWord nones) ∷ threeNumber (arranged 2 0 1 0 noneWord nones)
+    ∷ threeNumber (arranged noneWord 0 1 2 noneWord nones) ∷ threeNumber (arranged 2 0 1 4 noneWord nones)
+    ∷ threeNumber (arranged noneWord 0 1 noneWord noneWord nones) ∷ threeNumber swapped ∷ threeNumber gapped ∷ [])
+    (3 ∷ 3 ∷ 3 ∷ 3 ∷ 3 ∷ 3 ∷ 3 ∷ []) ∷
+    -- and so they do where a word behind the entries is used: the address, Ori, Cur or Next of place 3
+    (let behind : List ℕ → ℕ = λ p. threeNumber (arranged 2 0 1 noneWord noneWord p) in
+    ex
+    (behind (5 ∷ noneWord ∷ noneWord ∷ noneWord ∷ []) ∷ behind (noneWord ∷ 0 ∷ noneWord ∷ noneWord ∷ [])
+    ∷ behind (noneWord ∷ noneWord ∷ 0 ∷ noneWord ∷ []) ∷ behind (noneWord ∷ noneWord ∷ noneWord ∷ 0 ∷ []) ∷ [])
+    (3 ∷ 3 ∷ 3 ∷ 3 ∷ [])) ∷
     -- K12's list passes; with the untouched block 2 left unlisted it does not
     ex (readNumber (recordWith 1 3 3) (k12List 2) ∷ readNumber (recordWith 1 3 2) (k12List noneWord) ∷ []) (0 ∷ 3 ∷ []) ∷
     []
 
 pub bytes-hold : Holds onBytes
-unfolding block byteOf from gen blocksOf memberOf place choose bit count total any first lesser setAt blank blockP blockQ otherMissing workedBack isSome freshState row codeOf settled made appendOne append logged writeStripe writeTo blockAt work after afterAll words bytesOf seek lookup isRecord allListed goodEntry goodStripe good follow slots counted passes valid said recordAt stateOf rows.badMeasures badRecord badLengths triesList inputRows numberOf flagsFrom roleOf arrayOf logOf readBuffer formatCode formatted
-bytes-hold = (refl, (refl, (refl, (refl, (refl, (refl, (refl, (refl, (refl, (refl, (refl, (refl, (refl, tt)))))))))))))
+unfolding block byteOf from gen blocksOf memberOf place choose bit count total any first lesser setAt blank blockP blockQ otherMissing workedBack isSome freshState row codeOf settled made appendOne append logged writeStripe writeTo blockAt work after afterAll words bytesOf seek lookup entriesFrom entries putFront putAll encode rises has hasAll isRecord goodWords goodEntry allGood same valid said recordAt stateOf rows.badMeasures badRecord badLengths triesList inputRows numberOf flagsFrom roleOf arrayOf logOf wordOf entriesOf listOf readBuffer formatCode formatted
+bytes-hold =
+    (refl, (refl, (refl, (refl, (refl, (refl, (refl, (refl, (refl, (refl, (refl, (refl, (refl, (refl, (refl, (refl, (refl, tt)))))))))))))))))

@@ -2,7 +2,6 @@
 -- pass, reached from a fresh one or not, with resyncs that are answered as they promise; failed members' bytes may change between them.
 -- Assumes nothing.
 use mathlib.Core.Bool.{Bool, true, false, _&&_, _||_}
-use mathlib.Core.List.{List}
 use mathlib.Core.Logic.{_≢_}
 use mathlib.Core.Option.{Option, none}
 use mathlib.Core.Path.{_≡_, refl, sym, ap, ap₂, _∙_, subst}
@@ -15,9 +14,10 @@ use borrow.Author.Tests.{eq-eqb, ne-eqb, lt-ltb, le-ltb, eqb-true, ltb-false}
 use Rattle.shelf.specs.Counting.{bit, any, setAt}
 use Rattle.shelf.specs.State.{State, isSome, listed, stale, marksIn, lowestStale, staleCount}
 use Rattle.shelf.specs.Status.{resync, arrayFailed, row, codeOf}
-use Rattle.shelf.specs.Calls.{inMode, nextLeft, modeLeft, settled, dropped, made, resynced, work}
+use Rattle.shelf.specs.Calls.{inMode, resyncStripe, nextLeft, modeLeft, settled, dropped, made, resynced, work}
 use Rattle.shelf.specs.HashList.{valid}
-use Rattle.shelf.specs.Lent.{Lent, lent, flag, flagFrom, flagAt, stateOf, listedBy, recordOf, flagsOf, arrayOf, logOf, numberOf, inputRows, Leaves, Answered}
+use Rattle.shelf.specs.Lent.{Lent, lent, flag, flagFrom, flagAt, stateOf, listedBy, recordOf, flagsOf, arrayOf, logOf, listOf, numberOf, inputRows, Leaves, Answered}
+use Rattle.shelf.specs.Showing.{HoldsList}
 use Rattle.shelf.specs.Sequence.{Changed, Resyncs, stop, more}
 use Rattle.shelf.specs.declared.record.Geometry.{Geometry}
 use Rattle.shelf.specs.declared.record.Shelf.{Shelf}
@@ -28,6 +28,7 @@ use Rattle.shelf.proofs.numbers.InputLaws.{Fine, record-fine, fine-reco
 use Rattle.shelf.proofs.lent.LayoutLaws.{array-length, log-length, flag-back}
 use Rattle.shelf.proofs.lent.LeavesLaws.{marks-here}
 use Rattle.shelf.proofs.lent.Holding.{leaves-is}
+use Rattle.shelf.proofs.calls.ResyncLaws.{resynced-says}
 
 -- ---- stale stripes
 
@@ -194,28 +195,33 @@ module _ (h : Lent) (n : ℕ) (W : Stale h (suc n)) where
         ]);
       }
 
-  then-here : (l : List ℕ) → Leaves g t (lent (recordOf g t) (arrayOf g t) (logOf g t) l) → Stale (lent (recordOf g t) (arrayOf g t) (logOf g t) l) n
+  -- the lowest stale stripe is one
+  there : resyncStripe g (stateOf h) < g .s
+  there = first-found (g .s) (stale g (listed (stateOf h .log))) (some-stale g (listed (stateOf h .log)) n (unfold stateOf in (W .stales))) .0
+
+  listing : HoldsList g t m (listOf g t)
+  listing = resynced-says (h .shelf) (h .array) (h .log) (h .list) (W .passed) there
+
+  then-here : Stale (lent (recordOf g t) (arrayOf g t) (logOf g t) (listOf g t)) n
   unfolding stateOf
-  then-here l L =
+  then-here =
       record {
         passed = record {
           range = W .passed .range;
           fine = record-fine (recordOf g t) fine-then;
           array = array-length g t;
           log = log-length g t;
-          list = L .length-of;
-          valid = L .passes;
+          list = listing .length-of;
+          valid = listing .passes;
         };
         sound = any-ext (g .d + 2) (flag (flagsOf (t .failed))) (flagAt (h .shelf)) (λ i hi. flag-same i (omega (arith, W .passed .range .d-most))) ∙ W .sound;
-        stales = count-ext (g .s) _ _ (stale-ext g (listedBy g l) (listed (t .log)) (λ x i hx hi.
-            ap₂ (λ (o c : Option ℕ). isSome o || isSome c) (L .ori x i hx hi) (L .cur x i hx hi))) ∙ S .stales;
+        stales = count-ext (g .s) _ _ (stale-ext g (listedBy g (listOf g t)) (listed (t .log)) (λ x i hx hi.
+            ap₂ (λ (o c : Option ℕ). isSome o || isSome c) (listing .ori x i hx hi) (listing .cur x i hx hi))) ∙ S .stales;
       }
 
   -- as the resync left it
   leaves-stale : (h' : Lent) → Leaves g t h' → Stale h' n
-  leaves-stale h' L =
-      let e = leaves-is g t h' L in
-      subst (λ (k : Lent). Stale k n) (sym e) (then-here (h' .list) (subst (λ (k : Lent). Leaves g t k) e L))
+  leaves-stale h' L = subst (λ (k : Lent). Stale k n) (sym (leaves-is g t h' L)) then-here
 
   leaves-mode : (h' : Lent) → Leaves g t h' → h' .shelf .mode ≡ modeLeft m 2
   leaves-mode h' L = ap (λ (r : Shelf). r .mode) (L .shelf) ∙ S .mode

@@ -1,62 +1,156 @@
 -- `shelf::alter::replace_stripe` meets its contract.
 -- Assumes nothing.
-use mathlib.Core.List.{List, []}
-use mathlib.Core.Path.{_≡_, sym, ap, ap₂, _∙_, subst}
+use mathlib.Core.List.{List}
+use mathlib.Core.Path.{_≡_, sym, ap, _∙_}
 use Prim.Native.Nat.{ℕ, _+_, _*_, _≤_}
 use native.Mathlib.Omega.{arith}
 use lib.ListN.{length}
-use Rattle.shelf.specs.Words.{words}
-use Rattle.shelf.specs.HashList.{Entry, entries}
-use Rattle.shelf.specs.Rewriting.{encode, dropStripe, held, merged, Rewritten}
-use Rattle.shelf.proofs.hashlist.ListMeaning.{passing}
-use Rattle.shelf.proofs.hashlist.RewriteLaws.{written-alone, none-room}
+use Rattle.shelf.specs.declared.record.Geometry.{Geometry}
+use Rattle.shelf.specs.Words.{words, bytesOf}
+use Rattle.shelf.specs.HashList.{Entry, entries, encode, entryIn}
+use Rattle.shelf.specs.Rewriting.{dropStripe, merged, placed}
+use Rattle.shelf.proofs.hashlist.WordLaws.{bytes-words}
+use Rattle.shelf.proofs.hashlist.TableLaws.{length-table}
+use Rattle.shelf.proofs.hashlist.FoundLaws.{listed-room}
+use Rattle.shelf.proofs.hashlist.GatherLaws.{length-merged}
+use Rattle.shelf.proofs.hashlist.AlterLaws.{closed-entries, closed-room, none-filled, merged-placed}
 use borrow.Author.Needs.{needs}
 use Rattle.shelf.proofs.alter.replace_stripe.Statement.{statement}
 use Rattle.shelf.proofs.alter.replace_stripe.Tie as tie
 
--- the working slice has room for every list
-bound : (e : ℕ) → e ≤ 4096 → 3 * e ≤ 12288
-bound e h = omega arith
+close-up-requires : tie.Need-close-up-requires
+close-up-requires c κs =
+    let st = c .before .before .before in
+    let a = st .args in
+    let p = st .pre .0 in
+    let v = st .pre .1 .0 in
+    (p, listed-room (words (a .l .now)) (a .g) (v .next) (a .n) (p .h0) (p .d0) (p .e1) (v .passing))
 
-write-list-requires : tie.Need-write-list-requires
-write-list-requires c κs =
-    let st = c .before .before .before .before in
-    let room = none-room (st .args .g) (st .args .k) (st .args .c) (words (st .args .l .now)) (st .args .y .now) (st .pre .1 .1) in
-    (st .pre .0, (room, st .pre .1 .1 .long))
+open-up-requires : tie.Need-open-up-requires
+open-up-requires c κs =
+    let st = c .before .before .before .before .before .before .before in
+    let a = st .args in
+    let g : Geometry = a .g in
+    let p = st .pre .0 in
+    let v = st .pre .1 .0 in
+    let w : List ℕ = words (a .l .now) in
+    let r = c .before .before .before .close-up in
+    let m : ℕ = r .result in
+    let fits : m + a .c ≤ g .e = closed-room w g (v .next) (a .n) (p .h0) (p .d0) (p .e1) (v .passing) (a .k) (a .c) m (words (r .last .0))
+    (r .ensures .0) (r .ensures .1 .0) (st .pre .1 .1 .room) in
+    let len : length (r .last .0) ≡ 4 * (g .h + 4 * g .e) = search needs in
+    (record { d0 = p .d0; d1 = p .d1; s1 = p .s1; h0 = p .h0; h1 = p .h1; e0 = p .e0; e1 = p .e1; len = len }, fits)
+
+put-places-requires : tie.Need-put-places-requires
+put-places-requires c κs =
+    let st = c .before .before .before .before .before .before .before .before .before .before .before in
+    let a = st .args in
+    let g : Geometry = a .g in
+    let p = st .pre .0 in
+    let v = st .pre .1 .0 in
+    let w : List ℕ = words (a .l .now) in
+    let r = c .before .before .before .before .before .before .before .close-up in
+    let m : ℕ = r .result in
+    let fits : m + a .c ≤ g .e = closed-room w g (v .next) (a .n) (p .h0) (p .d0) (p .e1) (v .passing) (a .k) (a .c) m (words (r .last .0))
+    (r .ensures .0) (r .ensures .1 .0) (st .pre .1 .1 .room) in
+    let s = c .before .before .before .open-up in
+    let within : s .result ≤ m = s .ensures .0 .opening .within in
+    let len : length (s .last .0) ≡ 4 * (g .h + 4 * g .e) = search needs in
+    (omega arith, (p .h1, (p .e1, (len, st .pre .1 .1 .long))))
+
+add-relink : tie.Need-add-relink
+add-relink c =
+    let st = c .before .before .before .before .before .before .before .before .before .before .before .before .before .before .before in
+    let a = st .args in
+    let g : Geometry = a .g in
+    let p = st .pre .0 in
+    let v = st .pre .1 .0 in
+    let w : List ℕ = words (a .l .now) in
+    let r = c .before .before .before .before .before .before .before .before .before .before .before .close-up in
+    let m : ℕ = r .result in
+    let fits : m + a .c ≤ g .e = closed-room w g (v .next) (a .n) (p .h0) (p .d0) (p .e1) (v .passing) (a .k) (a .c) m (words (r .last .0))
+    (r .ensures .0) (r .ensures .1 .0) (st .pre .1 .1 .room) in
+    omega (arith, p .e1)
+
+relink-requires : tie.Need-relink-requires
+relink-requires c κs =
+    let st = c .before .before .before .before .before .before .before .before .before .before .before .before .before .before .before in
+    let a = st .args in
+    let g : Geometry = a .g in
+    let p = st .pre .0 in
+    let v = st .pre .1 .0 in
+    let w : List ℕ = words (a .l .now) in
+    let r = c .before .before .before .before .before .before .before .before .before .before .before .close-up in
+    let m : ℕ = r .result in
+    let fits : m + a .c ≤ g .e = closed-room w g (v .next) (a .n) (p .h0) (p .d0) (p .e1) (v .passing) (a .k) (a .c) m (words (r .last .0))
+    (r .ensures .0) (r .ensures .1 .0) (st .pre .1 .1 .room) in
+    let s = c .before .before .before .before .before .before .before .open-up in
+    let f = c .before .before .before .put-places in
+    let len : length (f .last .0) ≡ 4 * (g .h + 4 * g .e) = search needs in (
+      record { d0 = p .d0; d1 = p .d1; s1 = p .s1; h0 = p .h0; h1 = p .h1; e0 = p .e0; e1 = p .e1; len = len },
+      (
+        fits,
+        (
+          listed-room w g (v .next) (a .n) (p .h0) (p .d0) (p .e1) (v .passing),
+          none-filled w g (v .next) (a .n) (p .h0) (p .d0) (p .e1) (v .passing) m (a .c) (s .result) (words (r .last .0)) (words (s .last .0))
+              (words (f .last .0)) (s .ensures .0 .opening .within) (r .ensures .1 .1) (s .ensures .1) (f .ensures .1),
+        ),
+      ),
+    )
+
+add-result : tie.Need-add-result
+add-result c =
+    let st = c .before .before .before .before .before .before .before .before .before .before .before .before .before .before .before .before .before .before in
+    let a = st .args in
+    let g : Geometry = a .g in
+    let p = st .pre .0 in
+    let v = st .pre .1 .0 in
+    let w : List ℕ = words (a .l .now) in
+    let r = c .before .before .before .before .before .before .before .before .before .before .before .before .before .before .close-up in
+    let m : ℕ = r .result in
+    let fits : m + a .c ≤ g .e = closed-room w g (v .next) (a .n) (p .h0) (p .d0) (p .e1) (v .passing) (a .k) (a .c) m (words (r .last .0))
+    (r .ensures .0) (r .ensures .1 .0) (st .pre .1 .1 .room) in
+    omega (arith, p .e1)
 
 same-length : tie.Need-same-length
 same-length c = search needs
 
 returns : tie.Need-returns
 returns c =
-    let st = c .before .before .before .before .before .before .before in
+    let st = c .before .before .before .before .before .before .before .before .before .before .before .before .before .before .before .before .before .before in
     let a = st .args in
-    let l : List ℕ = c .before .before .write-list .last .0 in
-    let len : length l ≡ 4 * (a .g .h + 4 * a .g .e) = search needs in
-    written-alone (a .g) (a .k) (a .c) (a .n) (words (a .l .now)) l (a .y .now) (st .pre .0 .h0) (st .pre .0 .d0) (st .pre .0 .e1) (st .pre .1 .0) (st .pre .1 .1) (c .before .before .before .before .if1 .taken) len (λ i. omega (arith, c .slice-known2 .given i)) (c .before .before .write-list .ensures)
-
-slice-aggregate-replace-in : tie.Need-slice-aggregate-replace-in
-slice-aggregate-replace-in c = search needs
-
-replace-in-requires : tie.Need-replace-in-requires
-replace-in-requires c κs =
-    let st = c .before .before .before .before .before in
-    (st .pre .0, (bound (st .args .g .e) (st .pre .0 .e1), (passing (words (st .args .l .now)) (st .args .g) (st .pre .1 .0 .next) (st .args .n) (st .pre .1 .0 .passing), st .pre .1 .1)))
-
-same-length-2 : tie.Need-same-length-2
-same-length-2 c = search needs
-
-returns-2 : tie.Need-returns-2
-returns-2 c = c .before .before .before .replace-in .ensures
+    let g : Geometry = a .g in
+    let p = st .pre .0 in
+    let v = st .pre .1 .0 in
+    let w : List ℕ = words (a .l .now) in
+    let r = c .before .before .before .before .before .before .before .before .before .before .before .before .before .before .close-up in
+    let m : ℕ = r .result in
+    let fits : m + a .c ≤ g .e = closed-room w g (v .next) (a .n) (p .h0) (p .d0) (p .e1) (v .passing) (a .k) (a .c) m (words (r .last .0))
+    (r .ensures .0) (r .ensures .1 .0) (st .pre .1 .1 .room) in
+    let es : List Entry = dropStripe (g .d) (a .k) (entries w g) in
+    let left = closed-entries w g (v .next) (a .n) (p .h0) (p .d0) (p .e1) (v .passing) (a .k) m (words (r .last .0)) (r .ensures .0) (r .ensures .1 .0) in
+    let l : List ℕ = c .before .before .relink .last .0 in
+    let s = c .before .before .before .before .before .before .before .before .before .before .open-up in
+    let f = c .before .before .before .before .before .before .put-places in
+    let len : length l ≡ 4 * (g .h + 4 * g .e) = search needs in
+    let all = merged-placed w g (v .next) (a .n) (a .k) (p .h0) (p .d0) (p .e1) (v .passing) m (a .c) (s .result)
+    (placed (g .e) (words (r .last .0)) (g .h) 0) (placed (g .e) (words (s .last .0)) (g .h) 0) (placed (g .e) (words (f .last .0)) (g .h) 0) (a .y .now)
+    (length-table (g .e) 0 (entryIn (words (s .last .0)) (g .h))) fits (st .pre .1 .1 .segment) (left .0) (s .ensures .0) (f .ensures .0) in
+    let is : words l ≡ encode g (merged (a .c) (a .y .now) es) = c .before .before .relink .ensures
+    ∙ ap (λ (fs : List Entry). encode g fs) all in (
+      sym (bytes-words l (g .h + 4 * g .e) len (λ i. omega (arith, c .slice-known5 .given i))) ∙ ap bytesOf is,
+      (is, ap (λ (j : ℕ). j + a .c) (left .1) ∙ sym (length-merged (a .c) (a .y .now) es)),
+    )
 
 pub replace-stripe-spec : {M : Type 1} → statement M
 replace-stripe-spec =
     tie.close
     (tie.spec
-    write-list-requires
+    close-up-requires
+    open-up-requires
+    put-places-requires
+    add-relink
+    relink-requires
+    add-result
     same-length
-    returns
-    slice-aggregate-replace-in
-    replace-in-requires
-    same-length-2
-    returns-2)
+    returns)

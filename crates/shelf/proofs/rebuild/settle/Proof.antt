@@ -14,8 +14,8 @@ returns c =
     let a = c .before .before .before .args in
     settled-sound (a .shelf) (a .parity) (a .list .now) (c .before .clear-array .result) (not-on (a .parity) (c .if1 .taken)) (c .before .clear-array .ensures)
 
-empty-list-requires : tie.Need-empty-list-requires
-empty-list-requires c κs = search needs
+fill-requires : tie.Need-fill-requires
+fill-requires c κs = search needs
 
 in-mode-requires : tie.Need-in-mode-requires
 in-mode-requires c κs = search needs
@@ -29,8 +29,8 @@ same-length c = search needs
 returns-2 : tie.Need-returns-2
 returns-2 c =
     let a = c .before .before .before .before .before .before .before .before .before .args in
-    settled-parity (a .shelf) (a .parity) (a .list .now) (c .before .before .before .before .empty-list .last .0) (c .before .before .before .before .before .before .before .clear-array .result) (c .before .in-mode .result) (c .drop-to .result) (not-off (a .parity) (c .before .before .before .before .before .before .if1 .left))
-    (c .before .before .before .before .before .before .before .clear-array .ensures) (c .before .in-mode .ensures) (c .drop-to .ensures) (c .before .before .before .before .empty-list .ensures)
+    settled-parity (a .shelf) (a .parity) (a .list .now) (c .before .before .before .before .fill .last .0) (c .before .before .before .before .before .before .before .clear-array .result) (c .before .in-mode .result) (c .drop-to .result) (not-off (a .parity) (c .before .before .before .before .before .before .if1 .left))
+    (c .before .before .before .before .before .before .before .clear-array .ensures) (c .before .in-mode .ensures) (c .drop-to .ensures) (c .before .before .before .before .fill .ensures)
 
 pub settle-spec : {M : Type 1} → statement M
 settle-spec =
@@ -38,7 +38,7 @@ settle-spec =
     (tie.spec
     clear-array-requires
     returns
-    empty-list-requires
+    fill-requires
     in-mode-requires
     drop-to-requires
     same-length

@@ -1,6 +1,6 @@
 -- `shelf::write::make_stripe` meets its contract.
 -- Assumes nothing.
-use Rattle.shelf.proofs.calls.ShareLaws.{made-shows, drop-keeps}
+use Rattle.shelf.proofs.calls.ShareLaws.{made-shows}
 use borrow.Author.Needs.{needs}
 use Rattle.shelf.proofs.write.make_stripe.Statement.{statement}
 use Rattle.shelf.proofs.write.make_stripe.Tie as tie
@@ -25,10 +25,8 @@ returns c =
     let a = c .before .before .before .before .before .before .before .before .before .before .before .before .before in
     let W = a .pre in
     let d = c .before .before .before .drop-stale in
-    let parity = c .before .before .before .before .before .before .before .store-parity in (
-      λ s w v n S H. made-shows (a .args .shelf) (a .args .list .now) (d .last .0) (a .args .t) (d .result) (W .listing) (W .few) (W .there) (d .ensures .0) (d .ensures .1) s w v (a .args .source .now) (a .args .share) (a .args .array .now) n S H (c .drop-to .result) (parity .last .1 .1 .1 .1 .0) (c .drop-to .ensures) (parity .ensures),
-      drop-keeps (a .args .shelf) (a .args .list .now) (d .last .0) (a .args .t) (d .result) (W .listing) (W .few) (W .there) (d .ensures .0) (d .ensures .1),
-    )
+    let parity = c .before .before .before .before .before .before .before .store-parity in
+    λ s w v n S H. made-shows (a .args .shelf) (a .args .list .now) (d .last .0) (a .args .t) (d .result) (W .listing) (W .few) (W .there) (d .ensures) s w v (a .args .source .now) (a .args .share) (a .args .array .now) n S H (c .drop-to .result) (parity .last .1 .1 .1 .1 .0) (c .drop-to .ensures) (parity .ensures)
 
 pub make-stripe-spec : {M : Type 1} → statement M
 make-stripe-spec =
