@@ -199,32 +199,17 @@ static void print_table(const struct line *from, const struct line *end, unsigne
     }
 }
 
-/* Prints the table of the calls with blocks listed, a column for each number of them. */
-static void print_list_table(unsigned rounds)
+/* Prints a table of some lines with blocks listed, a row for each d and each B or H, a column for each
+   number of blocks: the time, and how many times that of a variant it is. */
+static void print_listed(const char *by, const struct line *from, const struct line *end, const uint32_t *numbers,
+                         unsigned peer, unsigned rounds)
 {
-    unsigned test = variant_count - 1;
-    printf("| call | d | B |");
+    printf("| call | d | %s |", by);
     for (unsigned c = 0; c < COUNTS; c++)
-        printf(" %u listed |", counts[c]);
+        printf(" %u listed |", numbers[c]);
     printf("\n|---|---|---|---|---|---|\n");
-    for (const struct line *row = lines + LIST_LINES; row < lines + TEST_LINES; row += COUNTS) {
-        printf("| %s | %u | %u |", titles[row->job.work], row->job.d, row->job.b);
-        for (const struct line *line = row; line < row + COUNTS; line++)
-            printf(" %.1f (%.1f) |", clear_time(line, 0, rounds) / 1e3, 1 / ratio(line, test, rounds));
-        printf("\n");
-    }
-}
-
-/* Prints the table of the test of the list, a column for each number of blocks listed. */
-static void print_test_table(unsigned rounds)
-{
-    unsigned peer = variant_count - 2;
-    printf("| call | d | H |");
-    for (unsigned c = 0; c < COUNTS; c++)
-        printf(" %u listed |", test_counts[c]);
-    printf("\n|---|---|---|---|---|---|\n");
-    for (const struct line *row = lines + TEST_LINES; row < lines + LINES; row += COUNTS) {
-        printf("| %s | %u | %u |", titles[row->job.work], row->job.d, row->job.h);
+    for (const struct line *row = from; row < end; row += COUNTS) {
+        printf("| %s | %u | %u |", titles[row->job.work], row->job.d, *by == 'B' ? row->job.b : row->job.h);
         for (const struct line *line = row; line < row + COUNTS; line++)
             printf(" %.1f (%.2f) |", clear_time(line, 0, rounds) / 1e3, 1 / ratio(line, peer, rounds));
         printf("\n");
@@ -240,9 +225,9 @@ void print_report(unsigned rounds)
     print_shelf_terms();
     print_table(lines + SHELF_WORKS * MEASURES, lines + LIST_LINES, rounds);
     print_list_terms();
-    print_list_table(rounds);
+    print_listed("B", lines + LIST_LINES, lines + TEST_LINES, counts, variant_count - 1, rounds);
     print_test_terms();
-    print_test_table(rounds);
+    print_listed("H", lines + TEST_LINES, lines + LINES, test_counts, variant_count - 2, rounds);
     printf("\nWith whatever else ran at the time, by the median over all rounds, a ratio was %.2f to %.2f times the"
            " one shown.\n", least_part, most_part);
 }

@@ -28,6 +28,17 @@ fn put_place(l: &mut [u8], h: usize, e: usize, i: usize, a: usize, o: usize, c: 
     words::put_word(l, h + 4 * i + 2, c);
 }
 
+// Puts the entry of place i in place j too; of e places behind h slot heads. The words behind place j are left.
+fn move_place(l: &mut [u8], h: usize, e: usize, i: usize, j: usize)
+    requires { ⌜ (i < e) × ((j < e) × ((h ≤ 256) × ((e ≤ 4096) × (length (now l) ≡ 4 * (h + 4 * e))))) ⌝ }
+    ensures { λ _. ⌜ (placed e (words (now (l .exit))) h 0 ≡ set (placed e (words (now (l .entry))) h 0) j (entryIn (words (now (l .entry))) h i)) × KeptFrom (h + 4 * (j + 1)) (words (now (l .entry))) (words (now (l .exit))) ⌝ }
+{
+    let a = words::word(l, h + 4 * i);
+    let o = words::word(l, h + 4 * i + 1);
+    let c = words::word(l, h + 4 * i + 2);
+    put_place(l, h, e, j, a, o, c);
+}
+
 // Closes the entries of the first n places up over those of stripe k. Answers how many are left, in the places from 0 on. The words
 // behind the n places are left.
 pub fn close_up(l: &mut [u8], g: record::Geometry, k: usize, n: usize) -> usize
@@ -42,9 +53,7 @@ pub fn close_up(l: &mut [u8], g: record::Geometry, k: usize, n: usize) -> usize
     while p < n {
         let a = words::word(l, h + 4 * p);
         if a / d != k {
-            let o = words::word(l, h + 4 * p + 1);
-            let c = words::word(l, h + 4 * p + 2);
-            put_place(l, h, e, m, a, o, c);
+            move_place(l, h, e, p, m);
             m += 1;
         }
         p += 1;
@@ -67,9 +76,7 @@ pub fn open_up(l: &mut [u8], g: record::Geometry, k: usize, n: usize, c: usize) 
         if a / d < k {
             break;
         }
-        let o = words::word(l, h + 4 * j + 1);
-        let q = words::word(l, h + 4 * j + 2);
-        put_place(l, h, e, j + c, a, o, q);
+        move_place(l, h, e, j, j + c);
         i = j;
     }
     i

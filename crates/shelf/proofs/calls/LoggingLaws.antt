@@ -36,7 +36,7 @@ use Rattle.shelf.proofs.agreement.AppendLaws.{one-on, one-off, append-n
 use Rattle.shelf.proofs.agreement.LoggedLaws.{count-marked, listed-after, was-listed, curAppended-next}
 use Rattle.shelf.proofs.hashlist.ListMarks.{some-record, listed-found, kept-marks}
 use Rattle.shelf.proofs.hashlist.ListMeaning.{length-encode, said-ori, said-cur, said-whole}
-use Rattle.shelf.proofs.hashlist.GatherLaws.{length-merged}
+use Rattle.shelf.proofs.hashlist.EntryLaws.{length-merged}
 use Rattle.shelf.proofs.hashlist.WordLaws.{length-bytes}
 use Rattle.shelf.proofs.lent.LayoutLaws.{role-data, role-p, role-q, by-role}
 use Rattle.shelf.proofs.numbers.InputLaws.{measures-of}

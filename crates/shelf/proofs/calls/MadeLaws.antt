@@ -5,7 +5,7 @@ use mathlib.Core.Bool.{Bool, _||_}
 use mathlib.Core.List.{List}
 use mathlib.Core.Logic.{_≢_}
 use mathlib.Core.Option.{Option, none}
-use mathlib.Core.Path.{_≡_, refl, sym, ap, ap₂, _∙_, subst}
+use mathlib.Core.Path.{_≡_, sym, ap, ap₂, _∙_, subst}
 use Prim.Native.Nat.{ℕ, _+_, _*_, _≤_, _<_}
 use native.Mathlib.Decide.{ℕ-discrete}
 use native.Mathlib.Omega.{arith}
@@ -34,7 +34,7 @@ use Rattle.shelf.proofs.lent.FreshLaws.{full-bytes, fresh-says}
 use Rattle.shelf.proofs.lent.ListLayout.{list-laid}
 use Rattle.shelf.proofs.lent.LayoutLaws.{array-is, role-data, role-p, role-q, by-role}
 use Rattle.shelf.proofs.agreement.ListedLaws.{marksIn-ext, no-marks}
-use Rattle.shelf.proofs.hashlist.ListMarks.{marks-listed}
+use Rattle.shelf.proofs.hashlist.ListMarks.{none-record, marks-listed}
 use Rattle.shelf.proofs.hashlist.ListMeaning.{length-encode, dropped-valid, dropped-left, dropped-gone, dropped-kept}
 use Rattle.shelf.proofs.hashlist.WordLaws.{length-bytes}
 
@@ -181,10 +181,6 @@ rowed-same g s t a ht A =
 
 -- ---- one stripe: the list and the record
 
-none-word : recordAt noneWord ≡ none
-unfolding recordAt choose
-none-word = refl
-
 -- the stripe's entries dropped: l₀ before, l after
 module _ (g : Geometry) (s : State) (t : ℕ) (row : ℕ → List ℕ) (Y : InRange g) (k₀ k : ℕ) (l₀ l : List ℕ) (most : k₀ ≤ g .e) (Z : HoldsList g s k₀ l₀)
     (W : Rewritten g (dropStripe (g .d) t (entries (words l₀) g)) l k) where
@@ -200,14 +196,14 @@ module _ (g : Geometry) (s : State) (t : ℕ) (row : ℕ → List ℕ) (Y : InRa
   dropped-ori : (x i : ℕ) → x < g .s → i < g .d → oriBy g l x i ≡ setAt t (λ _. none) (s .log .ori) x i
   dropped-ori x i hx hi =
       elim (ℕ-discrete x t) [
-        | yes e ↦ ap (λ (v : Entry). recordAt (v .ori)) (said-gone x i hi e) ∙ none-word ∙ sym (setRow-here t (λ _. none) (s .log .ori) x i e)
+        | yes e ↦ ap (λ (v : Entry). recordAt (v .ori)) (said-gone x i hi e) ∙ none-record ∙ sym (setRow-here t (λ _. none) (s .log .ori) x i e)
         | no ne ↦ ap (λ (v : Entry). recordAt (v .ori)) (said-kept x i hi ne) ∙ Z .ori x i hx hi ∙ sym (setRow-other t (λ _. none) (s .log .ori) x i ne)
       ]
 
   dropped-cur : (x i : ℕ) → x < g .s → i < g .d → curBy g l x i ≡ setAt t (λ _. none) (s .log .cur) x i
   dropped-cur x i hx hi =
       elim (ℕ-discrete x t) [
-        | yes e ↦ ap (λ (v : Entry). recordAt (v .cur)) (said-gone x i hi e) ∙ none-word ∙ sym (setRow-here t (λ _. none) (s .log .cur) x i e)
+        | yes e ↦ ap (λ (v : Entry). recordAt (v .cur)) (said-gone x i hi e) ∙ none-record ∙ sym (setRow-here t (λ _. none) (s .log .cur) x i e)
         | no ne ↦ ap (λ (v : Entry). recordAt (v .cur)) (said-kept x i hi ne) ∙ Z .cur x i hx hi ∙ sym (setRow-other t (λ _. none) (s .log .cur) x i ne)
       ]
 

@@ -19,7 +19,7 @@ use Rattle.shelf.proofs.hashlist.DecodeLaws.{Rising, InE, Named, Stands
 use Rattle.shelf.proofs.hashlist.EncodeLaws.{Fit, Fits, encode-valid}
 use Rattle.shelf.proofs.hashlist.FoundLaws.{fits-of, fit-of, entries-taken, entries-rising, entries-fits, entries-count, listed-room, unused}
 use Rattle.shelf.proofs.hashlist.TableLaws.{table-take, taken-count}
-use Rattle.shelf.proofs.hashlist.GatherLaws.{drop-in, in-drop, drop-rising, spread-merged, merged-rising, in-merged, merged-in, length-merged}
+use Rattle.shelf.proofs.hashlist.EntryLaws.{drop-in, in-drop, drop-rising, spread-merged, merged-rising, in-merged, merged-in, length-merged}
 
 -- without stripe k they still fit
 pub drop-fits : (g : Geometry) (next : ℕ) (es : List Entry) (k : ℕ) → Fits g next es es

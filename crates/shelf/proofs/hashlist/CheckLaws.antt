@@ -242,7 +242,7 @@ four a b c d q =
     let r3 = and-both c d (r2 .1) in
     (r1 .0, (r2 .0, (r3 .0, r3 .1)))
 
-unused-words : (w : List ℕ) (h p : ℕ) → unused w h p ≡ true
+pub unused-words : (w : List ℕ) (h p : ℕ) → unused w h p ≡ true
     → (addressAt w h p ≡ noneWord) × ((oriAt w h p ≡ noneWord) × ((curAt w h p ≡ noneWord) × (nextAt w h p ≡ noneWord)))
 unfolding unused
 unused-words w h p q =

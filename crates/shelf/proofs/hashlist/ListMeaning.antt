@@ -23,7 +23,7 @@ use Rattle.shelf.proofs.hashlist.ChainLaws.{placeOf, length-putN, looku
 use Rattle.shelf.proofs.general.WalkLaws.{countFrom, countFrom-ext, countFrom-rows}
 use Rattle.shelf.proofs.hashlist.EncodeLaws.{Fit, encode-valid, has-true, has-elim}
 use Rattle.shelf.proofs.hashlist.FoundLaws.{fit-of, count-has, entries-rising, entries-fits, found-address, found-fit, has-listed, listed-has, listed-total}
-use Rattle.shelf.proofs.hashlist.GatherLaws.{merged-new, length-merged, drop-in, in-drop, drop-rising}
+use Rattle.shelf.proofs.hashlist.EntryLaws.{merged-new, length-merged, drop-in, in-drop, drop-rising}
 use Rattle.shelf.proofs.hashlist.AlterLaws.{dropped, Altered, altered}
 use Rattle.shelf.proofs.hashlist.PickLaws.{pickE, looked, unlisted, pick-new, pick-gone, pick-others}
 

@@ -14,7 +14,7 @@ use Rattle.shelf.specs.Rewriting.{dropStripe, at3, merged, Segment}
 use Rattle.shelf.proofs.general.TestLaws.{either-way}
 use Rattle.shelf.proofs.hashlist.DecodeLaws.{Rising, InE}
 use Rattle.shelf.proofs.hashlist.FoundLaws.{rising-in, entries-rising, found-in, found-address, has-listed}
-use Rattle.shelf.proofs.hashlist.GatherLaws.{drop-in, in-drop, drop-rising, merged-rising, in-merged, merged-in, merged-new}
+use Rattle.shelf.proofs.hashlist.EntryLaws.{drop-in, in-drop, drop-rising, merged-rising, in-merged, merged-in, merged-new}
 
 -- the entry of address a, or one with neither Ori nor Cur
 unfoldable pub pickE : List Entry → ℕ → Entry

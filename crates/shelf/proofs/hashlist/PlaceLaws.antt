@@ -1,19 +1,24 @@
--- The tests of places, as the code makes them.
+-- The tests of places and of unused words, as the code makes them.
 -- Assumes nothing.
 use mathlib.Core.Bool.{Bool, true, false, not, _||_}
 use mathlib.Core.List.{List}
 use mathlib.Core.Logic.{⊎-elim, _≢_}
-use mathlib.Core.Path.{_≡_, sym, ap, _∙_}
-use Prim.Native.Nat.{ℕ, _+_, _*_, _-_, _%_, _≤_, _<_}
+use mathlib.Core.Path.{_≡_, refl, sym, ap, _∙_, subst}
+use Prim.Native.Nat.{ℕ, zero, suc, _+_, _*_, _-_, _/_, _%_, _≤_, _<_}
+use native.Mathlib.Nat.{add-zero}
 use native.Mathlib.Omega.{arith}
 use lib.Dec.{eqb, ltb}
+use lib.ListN.{length, getD}
 use borrow.Author.Tests.{eq-eqb, ne-eqb, lt-ltb, le-ltb, le-leb, lt-leb, eqb-true, eqb-false, ltb-true, ltb-false}
 use Rattle.shelf.specs.declared.record.Geometry.{Geometry}
 use Rattle.shelf.specs.Counting.{every}
+use Rattle.shelf.specs.Words.{words}
 use Rattle.shelf.specs.HashList.{noneWord, addressAt, oriAt, curAt, nextAt, isRecord, goodWords}
-use Rattle.shelf.specs.Checking.{around, goodPlace, unused, fine, links}
-use Rattle.shelf.proofs.general.TestLaws.{either-way, not-so, false-is, choose-true, choose-false}
-use Rattle.shelf.proofs.hashlist.CheckLaws.{every-each, each-every}
+use Rattle.shelf.specs.Checking.{around, goodPlace, unused, noneWords, fine, links}
+use Rattle.shelf.proofs.general.TestLaws.{either-way, not-so, false-is, same-bool, choose-true, choose-false}
+use Rattle.shelf.proofs.hashlist.CheckLaws.{every-each, each-every, unused-words}
+use Rattle.shelf.proofs.hashlist.EncodeLaws.{both}
+use Rattle.shelf.proofs.hashlist.WordLaws.{wordAt, word-read}
 
 -- ---- good_words
 
@@ -101,37 +106,90 @@ module _ (w : List ℕ) (g : Geometry) (next n p a : ℕ) (x : a ≡ addressAt w
     unfolding goodPlace
     place-has q m = simp (b, sym same ∙ q) (choose-false _ _ _ (ne-eqb (oriAt w (g .h) p) noneWord (λ v. m (y ∙ v))))
 
--- ---- is_unused
+-- ---- are_none
 
-module _ (w : List ℕ) (h p a : ℕ) (x : a ≡ addressAt w h p) where
-  pub unused-address : a ≢ noneWord → unused w h p ≡ false
-  unfolding unused
-  unused-address q = simp (ne-eqb (addressAt w h p) noneWord (λ v. q (x ∙ v)))
+-- the four bytes of a word that is none
+none-byte : (l : List ℕ) (x : ℕ) → getD l x 0 < 256 → getD l (x + 1) 0 < 256 → getD l (x + 2) 0 < 256 → getD l (x + 3) 0 < 256
+    → wordAt l x ≡ noneWord → (r : ℕ) → r < 4 → getD l (x + r) 0 ≡ 255
+none-byte l x a b c d v zero h = rw (add-zero x) (omega arith)
+none-byte l x a b c d v (suc zero) h = omega arith
+none-byte l x a b c d v (suc (suc zero)) h = omega arith
+none-byte l x a b c d v (suc (suc (suc zero))) h = omega arith
+none-byte l x a b c d v (suc (suc (suc (suc r)))) h = absurd (omega arith)
 
-  module _ (s : a ≡ noneWord) (o : ℕ) (y : o ≡ oriAt w h p) where
-    pub unused-ori : o ≢ noneWord → unused w h p ≡ false
-    unfolding unused
-    unused-ori q = simp (eq-eqb (addressAt w h p) noneWord (sym x ∙ s), ne-eqb (oriAt w h p) noneWord (λ v. q (y ∙ v)))
+module _ (l : List ℕ) (i k : ℕ) (long : 4 * k ≤ length l) where
+  -- all bytes 255: all words none
+  pub none-all : ((q : ℕ) → 4 * i ≤ q → q < 4 * k → getD l q 0 ≡ 255) → noneWords (words l) i k ≡ true
+  unfolding noneWords
+  none-all f =
+      each-every (k - i) (λ j. eqb (getD (words l) (i + j) 0) noneWord) (λ j o.
+      let x : ℕ = 4 * (i + j) in
+      let e0 = f x (omega arith) (omega arith) in
+      let e1 = f (x + 1) (omega arith) (omega arith) in
+      let e2 = f (x + 2) (omega arith) (omega arith) in
+      let e3 = f (x + 3) (omega arith) (omega arith) in
+      eq-eqb _ _ (word-read l (i + j) x refl (omega arith) ∙ omega (arith, e0, e1, e2, e3)))
 
-    module _ (t : o ≡ noneWord) (c : ℕ) (z : c ≡ curAt w h p) where
-      pub unused-cur : c ≢ noneWord → unused w h p ≡ false
-      unfolding unused
-      unused-cur q =
-          simp (
-            eq-eqb (addressAt w h p) noneWord (sym x ∙ s),
-            eq-eqb (oriAt w h p) noneWord (sym y ∙ t),
-            ne-eqb (curAt w h p) noneWord (λ v. q (z ∙ v)),
-          )
+  -- and the other way
+  pub none-each : ((q : ℕ) → 4 * i ≤ q → q < 4 * k → getD l q 0 < 256) → noneWords (words l) i k ≡ true → (q : ℕ) → 4 * i ≤ q → q < 4 * k
+      → getD l q 0 ≡ 255
+  unfolding noneWords
+  none-each low v q o h =
+      let s : i + (q / 4 - i) ≡ q / 4 = omega arith in
+      let w : getD (words l) (i + (q / 4 - i)) 0 ≡ noneWord =
+      eqb-true _ _ (every-each (k - i) (λ j. eqb (getD (words l) (i + j) 0) noneWord) v (q / 4 - i) (omega arith)) in
+      let at : wordAt l (4 * (q / 4)) ≡ noneWord = sym (word-read l (q / 4) (4 * (q / 4)) refl (omega arith)) ∙ rw s at w in
+      let z : 4 * (q / 4) + q % 4 ≡ q = omega arith in
+      subst (λ (p : ℕ). getD l p 0 ≡ 255) z (none-byte l (4 * (q / 4)) (low (4 * (q / 4)) (omega arith) (omega arith)) (low (4 * (q / 4) + 1) (omega arith) (omega arith))
+      (low (4 * (q / 4) + 2) (omega arith) (omega arith)) (low (4 * (q / 4) + 3) (omega arith) (omega arith)) at (q % 4) (omega arith))
 
-      pub unused-next : c ≡ noneWord → (r : ℕ) → r ≡ nextAt w h p → unused w h p ≡ eqb r noneWord
-      unfolding unused
-      unused-next q r u =
-          simp (
-            eq-eqb (addressAt w h p) noneWord (sym x ∙ s),
-            eq-eqb (oriAt w h p) noneWord (sym y ∙ t),
-            eq-eqb (curAt w h p) noneWord (sym z ∙ q),
-            u,
-          )
+-- of the bytes from a on, below j, all are 255 where low is, and only there
+pub record NoneTo (l : List ℕ) (a j low : ℕ) : Type 0 where
+  pub most : low ≤ 255
+  pub bytes : (q : ℕ) → a ≤ q → q < j → getD l q 0 < 256
+  pub all : low ≡ 255 → (q : ℕ) → a ≤ q → q < j → getD l q 0 ≡ 255
+  pub only : ((q : ℕ) → a ≤ q → q < j → getD l q 0 ≡ 255) → low ≡ 255
+
+pub none-start : (l : List ℕ) (a : ℕ) → NoneTo l a a 255
+none-start l a = record { most = omega arith; bytes = λ q o h. absurd (omega arith); all = λ _ q o h. absurd (omega arith); only = λ _. refl }
+
+byte-more : (l : List ℕ) (a j low : ℕ) → getD l j 0 < 256 → NoneTo l a j low → (q : ℕ) → a ≤ q → q < j + 1 → getD l q 0 < 256
+byte-more l a j low u N q l1 l2 =
+    ⊎-elim
+    (λ t. let z : q ≡ j = eqb-true q j t in rw z u)
+    (λ t. let z : q ≢ j = eqb-false q j t in N .bytes q l1 (omega arith))
+    (either-way (eqb q j))
+
+-- one byte more, not below low; and one that is
+pub none-kept : (l : List ℕ) (a j low : ℕ) → a ≤ j → low ≤ getD l j 0 → getD l j 0 < 256 → NoneTo l a j low → NoneTo l a (j + 1) low
+none-kept l a j low o h u N =
+    record {
+      most = N .most;
+      bytes = byte-more l a j low u N;
+      all = λ e q l1 l2.
+          ⊎-elim
+          (λ t. let z : q ≡ j = eqb-true q j t in rw z (omega arith))
+          (λ t. let z : q ≢ j = eqb-false q j t in N .all e q l1 (omega arith))
+          (either-way (eqb q j));
+      only = λ f. N .only (λ q l1 l2. f q l1 (omega arith));
+    }
+
+pub none-lower : (l : List ℕ) (a j low : ℕ) → a ≤ j → getD l j 0 < low → NoneTo l a j low → NoneTo l a (j + 1) (getD l j 0)
+none-lower l a j low o h N =
+    let m : low ≤ 255 = N .most in
+    record {
+      most = omega arith;
+      bytes = byte-more l a j low (omega arith) N;
+      all = λ e. absurd (omega arith);
+      only = λ f. f j o (omega arith);
+    }
+
+pub none-done : (l : List ℕ) (i k j low : ℕ) → 4 * k ≤ length l → j ≡ 4 * k → NoneTo l (4 * i) j low
+    → eqb low 255 ≡ noneWords (words l) i k
+none-done l i k j low long e N =
+    same-bool (eqb low 255) (noneWords (words l) i k)
+    (λ t. none-all l i k long (λ q o h. N .all (eqb-true low 255 t) q o (omega arith)))
+    (λ t. eq-eqb low 255 (N .only (λ q o h. none-each l i k long (λ p u v. N .bytes p u (omega arith)) t q o (omega arith))))
 
 -- ---- links_up
 
@@ -154,6 +212,19 @@ each-more f n p h y q o l =
     (λ t. let z : q ≢ p = eqb-false q p t in h q o (omega arith))
     (either-way (eqb q p))
 
+-- the four words of an unused place
+none-word : (w : List ℕ) (h p : ℕ) → unused w h p ≡ true → (r : ℕ) → r < 4 → getD w (h + 4 * p + r) 0 ≡ noneWord
+none-word w h p u zero o = rw (add-zero (h + 4 * p)) (unused-words w h p u .0)
+none-word w h p u (suc zero) o = unused-words w h p u .1 .0
+none-word w h p u (suc (suc zero)) o = unused-words w h p u .1 .1 .0
+none-word w h p u (suc (suc (suc zero))) o = unused-words w h p u .1 .1 .1
+none-word w h p u (suc (suc (suc (suc r)))) o = absurd (omega arith)
+
+four-none : (w : List ℕ) (h p : ℕ) → eqb (addressAt w h p) noneWord ≡ true → eqb (oriAt w h p) noneWord ≡ true
+    → eqb (curAt w h p) noneWord ≡ true → eqb (nextAt w h p) noneWord ≡ true → unused w h p ≡ true
+unfolding unused
+four-none w h p a o c x = both a (both o (both c x))
+
 module _ (w : List ℕ) (g : Geometry) (next n : ℕ) (room : n ≤ g .e) where
   abbrev tested : Bool
   tested = every (g .e) (fine w g next n)
@@ -170,15 +241,26 @@ module _ (w : List ℕ) (g : Geometry) (next n : ℕ) (room : n ≤ g .e) where
   places-bad p o t e z =
       false-is tested (λ v. not-so (sym (every-each (g .e) (fine w g next n) v p (omega arith)) ∙ fine-good p o ∙ sym e ∙ z))
 
-  pub places-used : (p : ℕ) → n ≤ p → p < g .e → (t : Bool) → t ≡ unused w (g .h) p → t ≡ false → tested ≡ false
-  places-used p o l t e z =
-      false-is tested (λ v. not-so (sym (every-each (g .e) (fine w g next n) v p l) ∙ fine-not p o ∙ sym e ∙ z))
-
-  pub places-all : ((q : ℕ) → 0 ≤ q → q < n → goodPlace w g next n q ≡ true) → ((q : ℕ) → n ≤ q → q < g .e → unused w (g .h) q ≡ true)
-      → tested ≡ true
-  places-all a b =
+  -- where the listed places pass, the words behind them tell
+  pub places-rest : ((q : ℕ) → 0 ≤ q → q < n → goodPlace w g next n q ≡ true) → noneWords w (g .h + 4 * n) (g .h + 4 * g .e) ≡ tested
+  unfolding noneWords
+  places-rest a =
+      same-bool (every (g .h + 4 * g .e - (g .h + 4 * n)) (λ j. eqb (getD w (g .h + 4 * n + j) 0) noneWord)) tested
+      (λ v.
+      let word : (q r : ℕ) → n ≤ q → q < g .e → r < 4 → (m : ℕ) → m ≡ g .h + 4 * q + r → eqb (getD w m 0) noneWord ≡ true =
+      λ q r o l h m e.
+      let s : g .h + 4 * n + (m - (g .h + 4 * n)) ≡ m = omega arith in
+      rw s at (every-each (g .h + 4 * g .e - (g .h + 4 * n)) (λ j. eqb (getD w (g .h + 4 * n + j) 0) noneWord) v (m - (g .h + 4 * n)) (omega arith)) in
       each-every (g .e) (fine w g next n) (λ q o.
       ⊎-elim
       (λ t. let l : q < n = ltb-true q n t in fine-good q l ∙ a q (omega arith) l)
-      (λ t. let l : n ≤ q = ltb-false q n t in fine-not q l ∙ b q l o)
-      (either-way (ltb q n)))
+      (λ t. let l : n ≤ q = ltb-false q n t in
+      fine-not q l ∙ four-none w (g .h) q (word q 0 l o (omega arith) (g .h + 4 * q) (omega arith)) (word q 1 l o (omega arith) (g .h + 4 * q + 1) (omega arith))
+      (word q 2 l o (omega arith) (g .h + 4 * q + 2) (omega arith)) (word q 3 l o (omega arith) (g .h + 4 * q + 3) (omega arith)))
+      (either-way (ltb q n))))
+      (λ v. each-every (g .h + 4 * g .e - (g .h + 4 * n)) (λ j. eqb (getD w (g .h + 4 * n + j) 0) noneWord) (λ j o.
+      let q : ℕ = n + j / 4 in
+      let l : n + j / 4 < g .e = omega arith in
+      let u = sym (fine-not (n + j / 4) (omega arith)) ∙ every-each (g .e) (fine w g next n) v (n + j / 4) l in
+      let z : g .h + 4 * (n + j / 4) + j % 4 ≡ g .h + 4 * n + j = omega arith in
+      eq-eqb _ _ (subst (λ (m : ℕ). getD w m 0 ≡ noneWord) z (none-word w (g .h) (n + j / 4) u (j % 4) (omega arith)))))

@@ -23,7 +23,7 @@ use Rattle.shelf.proofs.general.CountLaws.{any-some}
 use Rattle.shelf.proofs.hashlist.DecodeLaws.{InE, Stands}
 use Rattle.shelf.proofs.hashlist.ListMeaning.{nothing-stale}
 use Rattle.shelf.proofs.hashlist.FoundLaws.{fit-of, entries-taken, entries-rising, entries-fits, entries-count, list-is, found-in, found-address, has-listed}
-use Rattle.shelf.proofs.hashlist.GatherLaws.{drop-none}
+use Rattle.shelf.proofs.hashlist.EntryLaws.{drop-none}
 use Rattle.shelf.proofs.hashlist.WordLaws.{bytes-words}
 use Rattle.shelf.proofs.hashlist.CheckLaws.{stands-in, stands-at, rising-up, up-from}
 

@@ -2,7 +2,6 @@
 -- Assumes nothing.
 use mathlib.Core.Bool.{false}
 use mathlib.Core.List.{List, []}
-use mathlib.Core.Option.{none}
 use mathlib.Core.Path.{_≡_, refl, sym, ap, _∙_, subst}
 use Prim.Native.Nat.{ℕ, zero, suc, _+_, _*_, _<_}
 use native.Mathlib.Omega.{arith}
@@ -11,7 +10,6 @@ use lib.Seq.{ext-getD}
 use Rattle.stripe.specs.Blocks.{block, gen}
 use Rattle.stripe.specs.Places.{place}
 use Rattle.stripe.proofs.Laws.{length-block, getD-block, length-gen, getD-gen, fits, place-lt}
-use Rattle.shelf.specs.Counting.{choose}
 use Rattle.shelf.specs.Members.{InRange, blank, addressOf}
 use Rattle.shelf.specs.State.{freshState, listed, isSome}
 use Rattle.shelf.specs.Book.{freshBook}
@@ -23,6 +21,7 @@ use Rattle.shelf.proofs.hashlist.WordLaws.{words-bytes}
 use Rattle.shelf.proofs.lent.FormatLaws.{none-bytes}
 use Rattle.shelf.proofs.hashlist.ListMeaning.{encode-none, none-valid, none-said}
 use Rattle.shelf.specs.Showing.{HoldsList}
+use Rattle.shelf.proofs.hashlist.ListMarks.{none-record}
 use Rattle.shelf.proofs.lent.ListLayout.{list-laid}
 use Rattle.shelf.proofs.lent.LayoutLaws.{array-is, log-is, role-data, role-p, role-q, by-role}
 use Rattle.shelf.proofs.agreement.ListedLaws.{no-marks}
@@ -56,10 +55,6 @@ none-words g = words-bytes (replicate (g .h + 4 * g .e) noneWord) ∙ sym (encod
 none-length : (g : Geometry) → length (formatted g .list) ≡ listLength g
 unfolding formatted
 none-length g = ap length (none-bytes (g .h + 4 * g .e)) ∙ length-replicate (4 * (g .h + 4 * g .e)) 255 ∙ omega arith
-
-none-record : recordAt noneWord ≡ none
-unfolding recordAt choose
-none-record = refl
 
 -- every byte of a list of nones is below 256
 pub full-bytes : (n i : ℕ) → getD {A = ℕ} (replicate n 255) i 0 < 256

@@ -16,7 +16,7 @@ use Rattle.shelf.specs.HashList.{noneWord, lookup, valid, Entry, said, e
 use Rattle.shelf.specs.Lent.{listLength}
 use Rattle.shelf.proofs.hashlist.DecodeLaws.{InE}
 use Rattle.shelf.proofs.hashlist.FoundLaws.{fit-of, entries-rising, entries-fits, list-is, found-in}
-use Rattle.shelf.proofs.hashlist.GatherLaws.{rising-same}
+use Rattle.shelf.proofs.hashlist.EntryLaws.{rising-same}
 use Rattle.shelf.proofs.hashlist.PickLaws.{pick-in, looked}
 use Rattle.shelf.proofs.hashlist.ListMeaning.{said-entries, said-listed}
 use Rattle.shelf.proofs.hashlist.WordLaws.{bytes-words}

@@ -12,7 +12,7 @@ use Rattle.shelf.specs.Rewriting.{dropStripe, merged, placed}
 use Rattle.shelf.proofs.hashlist.WordLaws.{bytes-words}
 use Rattle.shelf.proofs.hashlist.TableLaws.{length-table}
 use Rattle.shelf.proofs.hashlist.FoundLaws.{listed-room}
-use Rattle.shelf.proofs.hashlist.GatherLaws.{length-merged}
+use Rattle.shelf.proofs.hashlist.EntryLaws.{length-merged}
 use Rattle.shelf.proofs.hashlist.AlterLaws.{closed-entries, closed-room, none-filled, merged-placed}
 use borrow.Author.Needs.{needs}
 use Rattle.shelf.proofs.alter.replace_stripe.Statement.{statement}

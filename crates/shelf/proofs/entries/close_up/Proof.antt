@@ -4,15 +4,15 @@
 use mathlib.Core.List.{List, _++_}
 use mathlib.Core.Logic.{⊎-elim}
 use mathlib.Core.Path.{_≡_, refl, sym, ap, ap₂, _∙_, subst}
-use Prim.Native.Nat.{ℕ, _+_, _*_, _-_, _≤_, _<_, zero-le}
+use Prim.Native.Nat.{ℕ, _+_, _*_, _-_, _/_, _≤_, _<_, zero-le}
 use native.Mathlib.Omega.{arith}
 use lib.ListN.{length, take, drop}
 use Rattle.shelf.specs.Words.{words}
 use Rattle.shelf.specs.declared.record.Geometry.{Geometry}
-use Rattle.shelf.specs.HashList.{Entry, entry, oriAt, curAt, entryIn}
+use Rattle.shelf.specs.HashList.{addressAt, oriAt, curAt, Entry, entry, entryIn}
 use Rattle.shelf.specs.Rewriting.{dropStripe, placed, KeptFrom}
 use Rattle.shelf.proofs.hashlist.TableLaws.{length-table, entry-got, kept-more}
-use Rattle.shelf.proofs.hashlist.GatherLaws.{Closed, close-start, close-keep, close-skip, close-end}
+use Rattle.shelf.proofs.hashlist.EntryLaws.{Closed, close-start, close-keep, close-skip, close-end}
 use borrow.Author.Needs.{needs}
 use Rattle.shelf.proofs.entries.close_up.Statement.{statement}
 use Rattle.shelf.proofs.entries.close_up.Tie as tie
@@ -42,32 +42,8 @@ word-requires c κs = search needs
 div-if1 : tie.Need-div-if1 Inv-loop μ-loop
 div-if1 c = search needs
 
-mul-word-2 : tie.Need-mul-word-2 Inv-loop μ-loop
-mul-word-2 c = search needs
-
-add-word-2 : tie.Need-add-word-2 Inv-loop μ-loop
-add-word-2 c = search needs
-
-add-word-3 : tie.Need-add-word-3 Inv-loop μ-loop
-add-word-3 c = search needs
-
-word-requires-2 : tie.Need-word-requires-2 Inv-loop μ-loop
-word-requires-2 c κs = search needs
-
-mul-word-3 : tie.Need-mul-word-3 Inv-loop μ-loop
-mul-word-3 c = search needs
-
-add-word-4 : tie.Need-add-word-4 Inv-loop μ-loop
-add-word-4 c = search needs
-
-add-word-5 : tie.Need-add-word-5 Inv-loop μ-loop
-add-word-5 c = search needs
-
-word-requires-3 : tie.Need-word-requires-3 Inv-loop μ-loop
-word-requires-3 c κs = search needs
-
-put-place-requires : tie.Need-put-place-requires Inv-loop μ-loop
-put-place-requires c κs = search needs
+move-place-requires : tie.Need-move-place-requires Inv-loop μ-loop
+move-place-requires c κs = search needs
 
 add-m : tie.Need-add-m Inv-loop μ-loop
 add-m c = search needs
@@ -99,21 +75,21 @@ loop-again c =
     let is = c .before .word .ensures .0 in
     ⊎-elim
     (λ u.
-    let v : List ℕ = words (u .6 .last .0) in
-    let same : length (u .6 .last .0) ≡ length (a .l .now) = search needs in (
+    let v : List ℕ = words (u .2 .last .0) in
+    let same : length (u .2 .last .0) ≡ length (a .l .now) = search needs in (
       omega arith,
       (
-        omega (arith, u .10),
+        omega (arith, u .6),
         (
-          ap length (u .9) ∙ same,
+          ap length (u .5) ∙ same,
           (
             ap₂ (λ (j : ℕ) (y : List ℕ). take j (placed (g .e) (words y) (g .h) 0)
-                ++ dropStripe (g .d) (a .k) (take (n - (p + 1)) (drop (p + 1) (placed (g .e) (words y) (g .h) 0)))) (u .10) (u .9)
-                ∙ close-keep (g .d) (a .k) n r m p (entry at (u .2 .result) (u .4 .result)) t (placed (g .e) v (g .h) 0) (inv .0) pn (omega arith)
-                (entry-got (g .e) p w (g .h) at (u .2 .result) (u .4 .result) pe is (u .2 .ensures .0) (u .4 .ensures .0)) (u .0 .taken)
-                (u .6 .ensures .0) (inv .1 .1 .0),
-            subst (λ (y : List ℕ). KeptFrom (g .h + 4 * n) w₀ (words y)) (sym (u .9))
-                (kept-more (g .h + 4 * n) (g .h + 4 * (m + 1)) w₀ w v (omega arith) (inv .1 .1 .1) (u .6 .ensures .1)),
+                ++ dropStripe (g .d) (a .k) (take (n - (p + 1)) (drop (p + 1) (placed (g .e) (words y) (g .h) 0)))) (u .6) (u .5)
+                ∙ close-keep (g .d) (a .k) n r m p (entryIn w (g .h) p) t (placed (g .e) v (g .h) 0) (inv .0) pn (omega arith)
+                (entry-got (g .e) p w (g .h) (addressAt w (g .h) p) (oriAt w (g .h) p) (curAt w (g .h) p) pe refl refl refl)
+                (λ z. u .0 .taken (ap (λ (b : ℕ). b / g .d) is ∙ z)) (u .2 .ensures .0) (inv .1 .1 .0),
+            subst (λ (y : List ℕ). KeptFrom (g .h + 4 * n) w₀ (words y)) (sym (u .5))
+                (kept-more (g .h + 4 * n) (g .h + 4 * (m + 1)) w₀ w v (omega arith) (inv .1 .1 .1) (u .2 .ensures .1)),
           ),
         ),
       ),
@@ -164,15 +140,7 @@ close-up-spec =
     add-word
     word-requires
     div-if1
-    mul-word-2
-    add-word-2
-    add-word-3
-    word-requires-2
-    mul-word-3
-    add-word-4
-    add-word-5
-    word-requires-3
-    put-place-requires
+    move-place-requires
     add-m
     add-p
     loop-less

@@ -1,4 +1,4 @@
--- Entries put in, dropped, gathered and merged.
+-- Entries dropped, put in and merged; and the same in a table of places: closed up over a stripe, opened up for one, filled.
 -- Assumes nothing.
 use mathlib.Core.Bool.{Bool, true, false}
 use mathlib.Core.List.{List, [], _∷_, _++_, append-assoc, append-nil}
