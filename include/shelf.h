@@ -42,7 +42,8 @@
  * The largest shelf has 4,831,838,208 bytes of array, 268,435,456 of log and 66,560 of list.
  *
  * A word has 32 bits, lowest byte first; SHELF_NONE is none. Heads and Next are place numbers or none, Ori and Cur are
- * numbers of log records or none, but not both none. An original is the block that P and Q of its stripe were made of.
+ * numbers of log records or none, in a listed place not both none. An original is the block that P and Q of its stripe
+ * were made of.
  *
  * The list has one arrangement. The listed blocks fill the places 0 to listed - 1, which are the listed places, in
  * rising address; every word of the unused places behind them is none. The slot of address a is a mod H. The slot's
@@ -129,8 +130,8 @@
  *     shelf_full_resync   makes the parity of all stripes, empties the list      1  2  8
  *
  * Time: every call but shelf_format and shelf_full_resync tests the whole list, by one pass over the E places and one
- * walk over the slots and their chains. It looks nothing up, so the time grows with E and H, however long the chains
- * are. To look a block up, a call goes along its slot's chain, which many slots keep short: where blocks are listed,
+ * walk over the slots and their chains. It looks nothing up, so the time grows with E, H and the count of listed
+ * blocks, however long the chains are. To look a block up, a call goes along its slot's chain, which many slots keep short: where blocks are listed,
  * shelf_write does so for the blocks of each stripe that it writes, shelf_read and shelf_rebuild for the blocks of
  * stripes in which they give one of a failed disk. shelf_resync looks nothing up: the lowest stale stripe is that of
  * place 0. To alter the list, a call moves entries to their new places and makes the chains anew: shelf_write

@@ -135,8 +135,8 @@ impl Damage<'_> {
         self.end_with(self.slot(place), place)
     }
 
-    /// The head of an empty slot, or a chain's end, leads to a place of another chain, into which a walk over the slots
-    /// came before, or which is its first if it is a head that comes there next.
+    /// The head of an empty slot, or a chain's end, leads to a place of another chain, so that a walk over the slots in
+    /// rising order finds the fault at a head, or at a Next, as asked.
     fn meet(&mut self, head: bool) -> Option<()> {
         let place = self.some_place()?;
         let (slot, other) = (self.slot(place), pick(self.measures().h, self.random));

@@ -69,8 +69,8 @@ pub fn is_right(r: &Record, bytes: &[u8]) -> bool {
     are_possible(r, &entries) && List::one(r.measures, &entries).bytes() == bytes
 }
 
-/// Whether all entries are possible: an address of the shelf, used records or none, and Ori, without which Cur and all
-/// blocks of the stripe are listed.
+/// Whether all entries are possible: an address of the shelf; Ori and Cur used records or none; and where Ori is none,
+/// Cur is not, and every block of the stripe is listed.
 fn are_possible(r: &Record, entries: &Entries) -> bool {
     let Measures { d, s, .. } = r.measures;
     let is_used = |record: u32| record == NONE || (record as usize) < r.next;

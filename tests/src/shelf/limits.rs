@@ -123,7 +123,7 @@ fn failed_sets(m: Measures) -> [Vec<usize>; 6] {
     [vec![], vec![0, log], vec![0, last], vec![last, p], vec![0, q], vec![p, log]]
 }
 
-/// Whether one chain may hold all places of the longest list: a rebuild then takes its time, and none is made.
+/// Whether a rebuild is slow: one slot, and the most stripes; none is made then.
 fn is_slow(m: Measures) -> bool {
     m.h == 1 && m.s == 65536
 }

@@ -45,7 +45,8 @@ const OTHERS_OF_ONE: [&[u32]; 8] = [
     &[N, 0, 1, 0, 1, N, N, N, N, N, N, N, N, 2],
 ];
 
-/// The second one: two neighbours have changed places, a chain falls, and both.
+/// The second one: two neighbours have changed places; a chain falls; places 0 and 2 have changed, and the chain falls
+/// with them.
 const OTHERS_OF_THREE: [&[u32]; 3] = [
     &[1, 0, 1, 0, 3, N, 0, N, 2, 2, 2, N, 4, N],
     &[2, 1, 0, N, 2, N, 1, 0, 3, N, 2, N, 4, 0],

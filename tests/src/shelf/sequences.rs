@@ -1,6 +1,6 @@
 //! Random sequences of calls from a fresh shelf, against the model and against the book. Each call gets the record and
 //! the buffers as the one before left them, save that the bytes of failed members change at will. Now and then the list
-//! is arranged in another way that says the same, and the call is refused before it is made.
+//! is arranged in another way that says the same: the call is first made on that list, and must be refused with 3.
 
 use super::book::Book;
 use super::calls::{Buffer, Call, Measures, Record, Shelf};

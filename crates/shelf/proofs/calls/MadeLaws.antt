@@ -321,7 +321,7 @@ module _ (g : Geometry) (disk : ℕ → ℕ → List ℕ) (a : List ℕ) (F : Fi
 
 -- ---- the list emptied: every byte 255
 
-empty-bytes : (g : Geometry) → replicate (listLength g) 255 ≡ formatted g .list
+pub empty-bytes : (g : Geometry) → replicate (listLength g) 255 ≡ formatted g .list
 unfolding formatted
 empty-bytes g =
     let q : 4 * g .h + 16 * g .e ≡ 4 * (g .h + 4 * g .e) = omega arith in
