@@ -32,12 +32,11 @@ pub record HoldsList (g : Geometry) (s : State) (k : ℕ) (l : List ℕ) : Type 
   pub ori : (x i : ℕ) → x < g .s → i < g .d → oriBy g l x i ≡ s .log .ori x i
   pub cur : (x i : ℕ) → x < g .s → i < g .d → curBy g l x i ≡ s .log .cur x i
 
--- all of it; the records and places in use are there, and where nothing is listed no log record is in use
+-- all of it; the records in use are there, and where nothing is listed no log record is in use
 pub record Shows (g : Geometry) (s : State) (h : Lent) : Type 0 where
   pub shelf : h .shelf ≡ recordOf g s
   pub array : HoldsArray g s (h .array)
   pub log : HoldsLog g s (h .log)
   pub list : HoldsList g s (h .shelf .listed) (h .list)
   pub room : h .shelf .next ≤ g .l
-  pub few : h .shelf .listed ≤ g .e
   pub idle : nextLeft (h .shelf .listed) (h .shelf .next) ≡ h .shelf .next

@@ -178,7 +178,6 @@ WritesStripe g t from p h h' =
 pub record Writable (r : Shelf) (a l : List ℕ) (t : ℕ) (from : List ℕ) (p : Share) : Type 0 where
   pub listing : ListReady r l
   pub array : length a ≡ arrayLength (r .geometry)
-  pub few : r .listed ≤ r .geometry .e
   pub there : t < r .geometry .s
   pub some : any (r .geometry .d) (tested (p .new)) ≡ true
   pub within : Within (r .geometry .d) (tested (p .new)) (numbered (p .from)) (r .geometry .b) (length from)

@@ -237,7 +237,8 @@ pub extern "C" fn shelf_resync(
 }
 
 // Fills every failed data disk with what a read gives and clears the array's flags. If P or Q had failed, both are made afresh for every
-// stripe, every word of the list is none and the mode is 0. Answers 0; or the first of 1, 2, 3, 12, 14 that applies, and then stores nothing.
+// stripe, every word of the list is none and the mode is 0. Answers 0; or the first of 1, 2, 3, 12, 14 that applies, and then stores
+// nothing.
 #[no_mangle]
 pub extern "C" fn shelf_rebuild(
     shelf: record::Shelf,

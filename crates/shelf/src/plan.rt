@@ -32,7 +32,7 @@ struct Choice {
 
 // The plan for stripe t, where the new ones of its blocks are written.
 pub fn plan_of(shelf: record::Shelf, list: &[u8], t: usize, new: [bool; 16]) -> Plan
-    requires { ⌜ ListReady shelf (now list) × ((t < shelf .geometry .s) × (shelf .listed ≤ shelf .geometry .e)) ⌝ }
+    requires { ⌜ ListReady shelf (now list) × (t < shelf .geometry .s) ⌝ }
     ensures { λ p. ⌜ Planned shelf (now (list .entry)) t (tested new) p ⌝ }
 {
     let d = shelf.geometry.d;

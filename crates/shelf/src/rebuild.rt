@@ -151,8 +151,8 @@ fn fill_block(
     stripe::blocks::copy_block(work, 0, array, k, g.b);
 }
 
-// Works back the block with data index i of stripe x in work. Where the other missing block is one of those below it, which are filled, it
-// is taken as it stands there, and P alone gives block i.
+// Works back the block with data index i of stripe x in work. Where the other missing block is one of those below it, which are filled,
+// it is taken as it stands there, and P alone gives block i.
 fn refill_block(
     shelf: record::Shelf,
     x: usize,
@@ -181,7 +181,8 @@ fn still_missing(i: usize, y: usize) -> usize
     y
 }
 
-// The record after a rebuild, and the list: the array's flags clear; where parity had failed, every word of the list is none and the mode is 0.
+// The record after a rebuild, and the list: the array's flags clear; where parity had failed, every word of the list is none and the
+// mode is 0.
 pub fn settle(shelf: record::Shelf, parity: bool, list: &mut [u8]) -> record::Shelf
     requires { ⌜ shelf .geometry .d ≤ 16 ⌝ }
     ensures { λ r. ⌜ (r ≡ rebuiltRecord shelf parity) × (now (list .exit) ≡ rebuiltList parity (now (list .entry))) ⌝ }

@@ -489,7 +489,6 @@ module _ (r : Shelf) (a n l l' from : List ℕ) (t k : ℕ) (p : Share) (q : Pla
         log = logged-keeps;
         list = logged-says;
         room = omega (arith, L .planned .next, room);
-        few = omega (arith, entries-then, row-room r a n l from t p q L);
         idle = logged-idle;
       }
 

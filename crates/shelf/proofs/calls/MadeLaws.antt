@@ -182,15 +182,15 @@ rowed-same g s t a ht A =
 -- ---- one stripe: the list and the record
 
 -- the stripe's entries dropped: l₀ before, l after
-module _ (g : Geometry) (s : State) (t : ℕ) (row : ℕ → List ℕ) (Y : InRange g) (k₀ k : ℕ) (l₀ l : List ℕ) (most : k₀ ≤ g .e) (Z : HoldsList g s k₀ l₀)
+module _ (g : Geometry) (s : State) (t : ℕ) (row : ℕ → List ℕ) (Y : InRange g) (k₀ k : ℕ) (l₀ l : List ℕ) (Z : HoldsList g s k₀ l₀)
     (W : Rewritten g (dropStripe (g .d) t (entries (words l₀) g)) l k) where
   said-gone : (x i : ℕ) → i < g .d → x ≡ t → said (words l) g (addressOf g x i) ≡ entry (addressOf g x i) noneWord noneWord
   said-gone x i hi e =
-      dropped-gone (words l₀) g (s .log .next) k₀ (Y .h-least) (omega (arith, Y .d-least)) (Y .e-most) most (Z .passes) t k l W (addressOf g x i) (stripe-of x (g .d) i hi ∙ e)
+      dropped-gone (words l₀) g (s .log .next) k₀ (Y .h-least) (omega (arith, Y .d-least)) (Y .e-most) (Z .passes) t k l W (addressOf g x i) (stripe-of x (g .d) i hi ∙ e)
 
   said-kept : (x i : ℕ) → i < g .d → x ≢ t → said (words l) g (addressOf g x i) ≡ said (words l₀) g (addressOf g x i)
   said-kept x i hi ne =
-      dropped-kept (words l₀) g (s .log .next) k₀ (Y .h-least) (omega (arith, Y .d-least)) (Y .e-most) most (Z .passes) t k l W (addressOf g x i)
+      dropped-kept (words l₀) g (s .log .next) k₀ (Y .h-least) (omega (arith, Y .d-least)) (Y .e-most) (Z .passes) t k l W (addressOf g x i)
       (λ q. ne (sym (stripe-of x (g .d) i hi) ∙ q))
 
   dropped-ori : (x i : ℕ) → x < g .s → i < g .d → oriBy g l x i ≡ setAt t (λ _. none) (s .log .ori) x i
@@ -210,7 +210,7 @@ module _ (g : Geometry) (s : State) (t : ℕ) (row : ℕ → List ℕ) (Y : InRa
   -- as many blocks are left listed as entries
   dropped-marks : k ≡ marksIn g (listed (dropped (s .log) t))
   dropped-marks =
-      sym (marks-listed g l (s .log .next) k Y (dropped-valid (words l₀) g (s .log .next) k₀ (Y .h-least) (omega (arith, Y .d-least)) (Y .e-most) most (Z .passes) t k l W))
+      sym (marks-listed g l (s .log .next) k Y (dropped-valid (words l₀) g (s .log .next) k₀ (Y .h-least) (omega (arith, Y .d-least)) (Y .e-most) (Z .passes) t k l W))
       ∙ marksIn-ext g (listedBy g l) (listed (dropped (s .log) t))
       (λ x i hx hi. ap₂ (λ (o c : Option ℕ). isSome o || isSome c) (dropped-ori x i hx hi) (dropped-cur x i hx hi))
 
@@ -220,7 +220,7 @@ module _ (g : Geometry) (s : State) (t : ℕ) (row : ℕ → List ℕ) (Y : InRa
       record {
         length-of = ap length (W .0) ∙ length-bytes _ ∙ (let q = length-encode g (dropStripe (g .d) t (entries (words l₀) g)) (Y .h-least) (Y .e-most) in omega (arith, q));
         passes = ap (λ (m : ℕ). valid (words l) g (nextLeft m (s .log .next)) k) (sym dropped-marks)
-            ∙ dropped-left (words l₀) g (s .log .next) k₀ (Y .h-least) (omega (arith, Y .d-least)) (Y .e-most) most (Z .passes) t k l W;
+            ∙ dropped-left (words l₀) g (s .log .next) k₀ (Y .h-least) (omega (arith, Y .d-least)) (Y .e-most) (Z .passes) t k l W;
         ori = dropped-ori;
         cur = dropped-cur;
       }

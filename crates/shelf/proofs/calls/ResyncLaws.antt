@@ -7,7 +7,7 @@ use Prim.Native.Nat.{ℕ, _+_, _*_, _≤_, _<_}
 use native.Mathlib.Omega.{arith}
 use lib.Dec.{eqb, ltb}
 use lib.ListN.{length, getD, replicate}
-use borrow.Author.Tests.{eq-eqb, ne-eqb, lt-ltb, le-ltb, ltb-false}
+use borrow.Author.Tests.{eq-eqb, ne-eqb, lt-ltb, le-ltb}
 use Rattle.stripe.specs.Places.{place, parityMade, parityMadeAll}
 use Rattle.shelf.specs.Counting.{choose, first}
 use Rattle.shelf.specs.Members.{InRange}
@@ -24,7 +24,7 @@ use Rattle.shelf.specs.declared.record.Shelf.{Shelf}
 use Rattle.shelf.proofs.general.TestLaws.{choose-true, choose-false}
 use Rattle.shelf.proofs.numbers.TableRows.{row-zero}
 use Rattle.shelf.proofs.general.CountLaws.{any-ext, first-ext}
-use Rattle.shelf.proofs.numbers.InputLaws.{Passed, in-range, fine-record, lengths-pass, inputs-pass, measures-of}
+use Rattle.shelf.proofs.numbers.InputLaws.{Passed, in-range, lengths-pass, inputs-pass, measures-of}
 use Rattle.shelf.proofs.lent.LayoutLaws.{log-is, role-data, role-p, role-q, by-role}
 use Rattle.shelf.proofs.lent.LeavesLaws.{same-flags, marks-here, leaves-here, refused-answered}
 use Rattle.shelf.proofs.hashlist.ListMarks.{listed-found}
@@ -103,9 +103,6 @@ module _ (r : Shelf) (a n l : List ℕ) where
             by-role g (λ k. roleBlock g s x k ≡ arrayBlock g a x k) (λ k hk. role-data g s x k hk) (role-p g s x) (role-q g s x) i hi;
       }
 
-  few : Passed r (length a) (length n) l → r .listed ≤ g .e
-  few P = ltb-false (g .e) (r .listed) (fine-record r (P .fine) .fits)
-
   -- the record and the list in mode 2
   two-record : length (r .failed) ≡ 19 → Passed r (length a) (length n) l → withMode r 2 ≡ recordOf g (inMode (stateOf (lent r a n l)) 2)
   unfolding stateOf
@@ -141,7 +138,7 @@ module _ (r : Shelf) (a n l : List ℕ) where
       let two = inMode (stateOf (lent r a n l)) 2 in
       let row : ℕ → List ℕ = stateOf (lent r a n l) .disk t in
       let low : t ≡ resyncStripe g (stateOf (lent r a n l)) = et ∙ lowest-is P in
-      let Z = made-says g two t row (P .range) (r .listed) k l l' (few P) (two-says P) W in (
+      let Z = made-says g two t row (P .range) (r .listed) k l l' (two-says P) W in (
         record {
           number = e;
           done = λ _.
@@ -161,7 +158,7 @@ module _ (r : Shelf) (a n l : List ℕ) where
       let st = stateOf (lent r a n l) in
       let t : ℕ = resyncStripe g (stateOf (lent r a n l)) in
       let es : List Entry = dropStripe (g .d) (resyncStripe g (stateOf (lent r a n l))) (entries (words l) g) in
-      let Z = made-says g (inMode st 2) t (st .disk t) (P .range) (r .listed) (length es) l (bytesOf (encode g es)) (few P) (two-says P)
+      let Z = made-says g (inMode st 2) t (st .disk t) (P .range) (r .listed) (length es) l (bytesOf (encode g es)) (two-says P)
       (refl, (words-bytes (encode g es), refl)) in
       let Z' : HoldsList g (resynced g (stateOf (lent r a n l))) (length es) (bytesOf (encode g es)) =
       subst (λ (s : State). HoldsList g s (length es) (bytesOf (encode g es))) (made-is t refl ht) Z in

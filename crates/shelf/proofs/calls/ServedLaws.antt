@@ -18,7 +18,7 @@ use Rattle.shelf.specs.State.{isSome, stale}
 use Rattle.shelf.specs.Status.{read, badAddress, badData, withheld, readWithheld, codeOf}
 use Rattle.shelf.specs.Calls.{orElse, work}
 use Rattle.shelf.specs.Words.{words}
-use Rattle.shelf.specs.HashList.{Entry, entry, entryAt, noneWord, oriAt, curAt, lookup, said, valid, listedIn, staleIn}
+use Rattle.shelf.specs.HashList.{Entry, entry, entryIn, noneWord, oriAt, curAt, lookup, said, valid, listedIn, staleIn}
 use Rattle.shelf.specs.Lent.{lent, stateOf, recordAt, oriBy, listedBy, flag, flagAt, numberOf, triesList, Answered}
 use Rattle.shelf.specs.Reading.{ListReady, Ready, latest, originalPlace, missingBy}
 use Rattle.shelf.specs.declared.record.Geometry.{Geometry}
@@ -36,17 +36,17 @@ use Rattle.shelf.proofs.lent.LeavesLaws.{leaves-here}
 -- ---- what the list says of an address, from the place found for it
 
 module _ (w : List ℕ) (g : Geometry) (a p : ℕ) (e : p ≡ lookup w g a) where
-  said-at : p < g .e → said w g a ≡ entryAt w g p
+  said-at : p < g .e → said w g a ≡ entryIn w (g .h) p
   unfolding said
   said-at h =
-      choose-true (ltb (lookup w g a) (g .e)) (entryAt w g (lookup w g a)) (entry a noneWord noneWord)
+      choose-true (ltb (lookup w g a) (g .e)) (entryIn w (g .h) (lookup w g a)) (entry a noneWord noneWord)
       (lt-ltb (lookup w g a) (g .e) (subst (λ (k : ℕ). k < g .e) e h))
-      ∙ ap (λ (k : ℕ). entryAt w g k) (sym e)
+      ∙ ap (λ (k : ℕ). entryIn w (g .h) k) (sym e)
 
   said-off : g .e ≤ p → said w g a ≡ entry a noneWord noneWord
   unfolding said
   said-off h =
-      choose-false (ltb (lookup w g a) (g .e)) (entryAt w g (lookup w g a)) (entry a noneWord noneWord)
+      choose-false (ltb (lookup w g a) (g .e)) (entryIn w (g .h) (lookup w g a)) (entry a noneWord noneWord)
       (le-ltb (lookup w g a) (g .e) (subst (λ (k : ℕ). g .e ≤ k) e h))
 
   pub ori-there : p < g .e → (o : ℕ) → o ≡ oriAt w (g .h) p → o ≡ said w g a .ori

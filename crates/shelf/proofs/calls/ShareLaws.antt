@@ -6,12 +6,11 @@ use mathlib.Core.Path.{_≡_, sym, _∙_, subst}
 use Prim.Native.Nat.{ℕ, _-_, _≤_, _<_}
 use native.Mathlib.Omega.{arith}
 use lib.Dec.{eqb}
-use lib.ListN.{length}
 use Rattle.stripe.specs.Places.{place, parityMade}
 use Rattle.shelf.specs.State.{State, listed}
 use Rattle.shelf.specs.Calls.{nextLeft, settled, made, overwritten}
 use Rattle.shelf.specs.Words.{words}
-use Rattle.shelf.specs.HashList.{entries, valid}
+use Rattle.shelf.specs.HashList.{entries}
 use Rattle.shelf.specs.Rewriting.{Rewritten, dropStripe}
 use Rattle.shelf.specs.Lent.{Lent, lent}
 use Rattle.shelf.specs.Records.{withListed}
@@ -22,8 +21,6 @@ use Rattle.shelf.specs.declared.record.Geometry.{Geometry}
 use Rattle.shelf.specs.declared.record.Shelf.{Shelf}
 use Rattle.shelf.specs.declared.share.Share.{Share}
 use Rattle.shelf.proofs.general.TestLaws.{cases, choose-true, choose-false}
-use Rattle.shelf.proofs.hashlist.AlterLaws.{length-drop}
-use Rattle.shelf.proofs.hashlist.FoundLaws.{entries-count}
 use Rattle.shelf.proofs.calls.CopyLaws.{stored-length, stored-here, stored-there}
 use Rattle.shelf.proofs.calls.MadeLaws.{Rowed, rowed, made-reads, made-says, made-record}
 
@@ -49,24 +46,17 @@ next-settled k next =
     (λ e. choose-false (eqb k 0) 0 (nextLeft k next) e)
 
 -- the list after the stripe's entries are dropped: l before, l' after, of k entries
-module _ (r : Shelf) (l l' : List ℕ) (t k : ℕ) (R : ListReady r l) (few : r .listed ≤ r .geometry .e) (ht : t < r .geometry .s)
+module _ (r : Shelf) (l l' : List ℕ) (t k : ℕ) (R : ListReady r l) (ht : t < r .geometry .s)
     (W : Rewritten (r .geometry) (dropStripe (r .geometry .d) t (entries (words l) (r .geometry))) l' k) where
   abbrev g : Geometry
   g = r .geometry
-
-  pub left-few : k ≤ r .geometry .e
-  left-few =
-      let n = entries-count (words l) g (r .next) (r .listed) (R .range .h-least) (omega (arith, R .range .d-least)) (R .range .e-most) (R .valid) in
-      let m = length-drop (g .d) t (entries (words l) g) in
-      let e : k ≡ length (dropStripe (g .d) t (entries (words l) g)) = W .1 .1 in
-      omega (arith, e, m, n, few)
 
   module _ (s : State) (w : ℕ → Bool) (v : ℕ → List ℕ) (src : List ℕ) (p : Share) (a n : List ℕ) (S : Shared (r .geometry) w v src p) (H : Shows (r .geometry) s (lent r a n l)) where
     abbrev row : ℕ → List ℕ
     row = overwritten w v (s .disk t)
 
     says : HoldsList g (made g s t row) k l'
-    says = made-says g s t row (R .range) (r .listed) k l l' few (H .list) W
+    says = made-says g s t row (R .range) (r .listed) k l l' (H .list) W
 
     pub made-shows : (r' : Shelf) (a' : List ℕ) → r' ≡ withListed r k
         → a' ≡ parityMade (place (r .geometry .d) (r .geometry .s) t) (r .geometry .d) (r .geometry .b)
@@ -81,6 +71,5 @@ module _ (r : Shelf) (l l' : List ℕ) (t k : ℕ) (R : ListReady r l) (few : r 
           log = record { long = H .log .long; blocks = H .log .blocks };
           list = says;
           room = next-within k (r .next) (g .l) (H .room);
-          few = left-few;
           idle = next-settled k (r .next);
         })

@@ -47,7 +47,6 @@ module _ (r : Shelf) (a n l : List ℕ) (P : Passed r (length a) (length n) l) (
         log = record { long = P .log; blocks = λ k _. refl };
         list = record { length-of = P .list; passes = P .valid; ori = λ x i _ _. refl; cur = λ x i _ _. refl };
         room = ltb-false (r .geometry .l) (r .next) (F .room);
-        few = ltb-false (r .geometry .e) (r .listed) (F .fits);
         idle = idle-next (r .listed) (r .next) (F .idle);
       }
 

@@ -63,15 +63,15 @@ in-named (y ∷ ys) f = (f y (inl refl), in-named ys (λ x i. f x (inr i)))
 pub drop-named : (d k : ℕ) (es : List Entry) → Named es → Named (dropStripe d k es)
 drop-named d k es n = in-named (dropStripe d k es) (λ x i. named-in es n x (drop-in d k x es i .0))
 
-pub record Dropped (w : List ℕ) (g : Geometry) (next listed : ℕ) (k : ℕ) : Type 0 where
+pub record Dropped (w : List ℕ) (g : Geometry) (next : ℕ) (k : ℕ) : Type 0 where
   pub passes : valid (encode g (dropStripe (g .d) k (entries w g))) g next (length (dropStripe (g .d) k (entries w g))) ≡ true
   pub stands : entries (encode g (dropStripe (g .d) k (entries w g))) g ≡ dropStripe (g .d) k (entries w g)
 
-pub dropped : (w : List ℕ) (g : Geometry) (next listed : ℕ) (k : ℕ) → 0 < g .h → 0 < g .d → g .e ≤ 4096 → listed ≤ g .e
-    → valid w g next listed ≡ true → Dropped w g next listed k
-dropped w g next listed k hp dp se le v =
+pub dropped : (w : List ℕ) (g : Geometry) (next listed : ℕ) (k : ℕ) → 0 < g .h → 0 < g .d → g .e ≤ 4096 → valid w g next listed ≡ true
+    → Dropped w g next k
+dropped w g next listed k hp dp se v =
     let es : List Entry = dropStripe (g .d) k (entries w g) in
-    let n : length es ≤ g .e = let a : length (entries w g) ≡ listed = entries-count w g next listed hp dp se v in
+    let n : length es ≤ g .e = let a = entries-taken w g .1 .1 in
     let b = length-drop (g .d) k (entries w g) in omega arith in
     let r : Rising 0 es = drop-rising 0 (g .d) k (entries w g) (entries-rising w g next listed hp dp se v) in
     let f : Fits g next es es = drop-fits g next (entries w g) k (entries-fits w g next listed hp dp se v) in

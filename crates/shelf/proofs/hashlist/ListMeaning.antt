@@ -14,7 +14,7 @@ use borrow.Author.Tests.{eq-eqb, ne-eqb, lt-ltb, le-ltb, eqb-true, ltb-true, ltb
 use Rattle.shelf.specs.declared.record.Geometry.{Geometry}
 use Rattle.shelf.specs.Counting.{choose, count, total}
 use Rattle.shelf.specs.Words.{words}
-use Rattle.shelf.specs.HashList.{noneWord, lookup, isRecord, valid, Entry, entry, entryAt, said, has, entries, putAll, encode, listedIn, staleIn}
+use Rattle.shelf.specs.HashList.{noneWord, lookup, isRecord, valid, Entry, entry, entryIn, said, has, entries, putAll, encode, listedIn, staleIn}
 use Rattle.shelf.specs.Rewriting.{dropStripe, merged, at3, Segment, Rewritten}
 use Rattle.shelf.proofs.general.TestLaws.{either-way, clash, same-bool, and-both, and-false, choose-true, choose-false}
 use Rattle.shelf.proofs.general.AddressLaws.{stripe-of}
@@ -47,15 +47,15 @@ has-drop d k es b =
 
 module _ (w : List ℕ) (g : Geometry) (next listed : ℕ) (hpos : 0 < g .h) (dpos : 0 < g .d) (small : g .e ≤ 4096)
     (v : valid w g next listed ≡ true) where
-  said-there : (a : ℕ) → lookup w g a < g .e → said w g a ≡ entryAt w g (lookup w g a)
+  said-there : (a : ℕ) → lookup w g a < g .e → said w g a ≡ entryIn w (g .h) (lookup w g a)
   unfolding said
   said-there a o =
-      choose-true (ltb (lookup w g a) (g .e)) (entryAt w g (lookup w g a)) (entry a noneWord noneWord) (lt-ltb (lookup w g a) (g .e) o)
+      choose-true (ltb (lookup w g a) (g .e)) (entryIn w (g .h) (lookup w g a)) (entry a noneWord noneWord) (lt-ltb (lookup w g a) (g .e) o)
 
   said-not : (a : ℕ) → g .e ≤ lookup w g a → said w g a ≡ entry a noneWord noneWord
   unfolding said
   said-not a o =
-      choose-false (ltb (lookup w g a) (g .e)) (entryAt w g (lookup w g a)) (entry a noneWord noneWord) (le-ltb (lookup w g a) (g .e) o)
+      choose-false (ltb (lookup w g a) (g .e)) (entryIn w (g .h) (lookup w g a)) (entry a noneWord noneWord) (le-ltb (lookup w g a) (g .e) o)
 
   -- what the list says is what its entries say
   pub said-entries : (a : ℕ) → pickE (entries w g) a ≡ said w g a
@@ -108,12 +108,12 @@ module _ (w : List ℕ) (g : Geometry) (next listed : ℕ) (hpos : 0 < g .h) (dp
       → lookup w g (x * g .d + k) < g .e
   said-whole x i il o n k kl =
       let a : ℕ = x * g .d + i in
-      let q : entryAt w g (lookup w g a) .address / g .d ≡ x =
+      let q : entryIn w (g .h) (lookup w g a) .address / g .d ≡ x =
       ap (λ (j : ℕ). j / g .d) (found-address w g next listed hpos dpos small v a o) ∙ stripe-of x (g .d) i il in
-      let lacks : entryAt w g (lookup w g a) .ori ≡ noneWord = ap (λ (z : Entry). z .ori) (sym (said-there a o)) ∙ n in
+      let lacks : entryIn w (g .h) (lookup w g a) .ori ≡ noneWord = ap (λ (z : Entry). z .ori) (sym (said-there a o)) ∙ n in
       let h = found-fit w g next listed hpos dpos small v a o .stripe lacks k kl in
       subst (λ (j : ℕ). lookup w g (j * g .d + k) < g .e) q
-      (has-listed w g next listed hpos dpos small v (entryAt w g (lookup w g a) .address / g .d * g .d + k) h)
+      (has-listed w g next listed hpos dpos small v (entryIn w (g .h) (lookup w g a) .address / g .d * g .d + k) h)
 
   -- as many blocks are listed as the count says
   pub listed-count : total (g .s) (λ x. count (g .d) (λ i. ltb (lookup w g (x * g .d + i)) (g .e))) ≡ listed
@@ -179,7 +179,7 @@ pub none-said : (g : Geometry) (a : ℕ) → 0 < g .h → g .e ≤ 4096 → said
 unfolding said
 none-said g a hpos small =
     let q : lookup (encode g []) g a ≡ noneWord = none-listed g a hpos small in
-    choose-false (ltb (lookup (encode g []) g a) (g .e)) (entryAt (encode g []) g (lookup (encode g []) g a)) (entry a noneWord noneWord)
+    choose-false (ltb (lookup (encode g []) g a) (g .e)) (entryIn (encode g []) (g .h) (lookup (encode g []) g a)) (entry a noneWord noneWord)
     (le-ltb (lookup (encode g []) g a) (g .e) (omega arith))
 
 length-none : (es : List Entry) → length es ≡ 0 → es ≡ []
@@ -188,12 +188,11 @@ length-none (x ∷ xs) e = absurd (omega arith)
 
 -- ---- stripe k's entries dropped: l is the list after, n its count
 
-module _ (w : List ℕ) (g : Geometry) (next listed : ℕ) (hpos : 0 < g .h) (dpos : 0 < g .d) (small : g .e ≤ 4096) (room : listed ≤ g .e)
-    (v : valid w g next listed ≡ true)
+module _ (w : List ℕ) (g : Geometry) (next listed : ℕ) (hpos : 0 < g .h) (dpos : 0 < g .d) (small : g .e ≤ 4096) (v : valid w g next listed ≡ true)
     (k n : ℕ) (l : List ℕ) (r : Rewritten g (dropStripe (g .d) k (entries w g)) l n) where
   pub dropped-valid : valid (words l) g next n ≡ true
   dropped-valid =
-      ap₂ (λ (u : List ℕ) (j : ℕ). valid u g next j) (r .1 .0) (r .1 .1) ∙ dropped w g next listed k hpos dpos small room v .passes
+      ap₂ (λ (u : List ℕ) (j : ℕ). valid u g next j) (r .1 .0) (r .1 .1) ∙ dropped w g next listed k hpos dpos small v .passes
 
   -- with next 0 where no entry is left
   pub dropped-left : valid (words l) g (choose (eqb n 0) 0 next) n ≡ true
@@ -208,28 +207,25 @@ module _ (w : List ℕ) (g : Geometry) (next listed : ℕ) (hpos : 0 < g .h) (dp
       (either-way (eqb n 0))
 
   dropped-entries : entries (words l) g ≡ dropStripe (g .d) k (entries w g)
-  dropped-entries = ap (λ (u : List ℕ). entries u g) (r .1 .0) ∙ dropped w g next listed k hpos dpos small room v .stands
+  dropped-entries = ap (λ (u : List ℕ). entries u g) (r .1 .0) ∙ dropped w g next listed k hpos dpos small v .stands
 
   after : (a : ℕ) → said (words l) g a ≡ pickE (dropStripe (g .d) k (entries w g)) a
   after a = sym (said-entries (words l) g next n hpos dpos small dropped-valid a) ∙ ap (λ (es : List Entry). pickE es a) dropped-entries
+
+  nothing : Segment (g .d) k 0 []
+  nothing = record { stripe = λ j o. absurd (omega arith); up = λ i j o h. absurd (omega arith) }
 
   pub dropped-gone : (a : ℕ) → a / g .d ≡ k → said (words l) g a ≡ entry a noneWord noneWord
   unfolding merged
   dropped-gone a q =
       after a ∙ pick-gone (g .d) k 0 [] (entries w g) (entries-rising w g next listed hpos dpos small v) nothing a q
       (λ j o. absurd (omega arith))
-    where
-      nothing : Segment (g .d) k 0 []
-      nothing = record { stripe = λ j o. absurd (omega arith); up = λ i j o h. absurd (omega arith) }
 
   pub dropped-kept : (a : ℕ) → a / g .d ≢ k → said (words l) g a ≡ said w g a
   unfolding merged
   dropped-kept a q =
       after a ∙ pick-others (g .d) k 0 [] (entries w g) (entries-rising w g next listed hpos dpos small v) nothing a q
       ∙ said-entries w g next listed hpos dpos small v a
-    where
-      nothing : Segment (g .d) k 0 []
-      nothing = record { stripe = λ j o. absurd (omega arith); up = λ i j o h. absurd (omega arith) }
 
 -- ---- stripe k's entries replaced by the c entries of y: l is the list after, n its count
 

@@ -9,7 +9,7 @@ use native.Mathlib.Omega.{arith}
 use lib.Dec.{eqb}
 use borrow.Author.Tests.{eq-eqb, ne-eqb, eqb-true, eqb-false}
 use Rattle.shelf.specs.declared.record.Geometry.{Geometry}
-use Rattle.shelf.specs.HashList.{noneWord, lookup, valid, Entry, entry, entryAt, entries}
+use Rattle.shelf.specs.HashList.{noneWord, lookup, valid, Entry, entry, entryIn, entries}
 use Rattle.shelf.specs.Rewriting.{dropStripe, at3, merged, Segment}
 use Rattle.shelf.proofs.general.TestLaws.{either-way}
 use Rattle.shelf.proofs.hashlist.DecodeLaws.{Rising, InE}
@@ -43,9 +43,9 @@ pick-out (y ∷ ys) a f = pick-step y ys a (f y (inl refl)) ∙ pick-out ys a (�
 module _ (w : List ℕ) (g : Geometry) (next listed : ℕ) (hpos : 0 < g .h) (dpos : 0 < g .d) (small : g .e ≤ 4096)
     (v : valid w g next listed ≡ true) where
   -- a listed address has the entry of its place
-  pub looked : (a : ℕ) → lookup w g a < g .e → pickE (entries w g) a ≡ entryAt w g (lookup w g a)
+  pub looked : (a : ℕ) → lookup w g a < g .e → pickE (entries w g) a ≡ entryIn w (g .h) (lookup w g a)
   looked a o =
-      pick-in 0 (entries w g) (entryAt w g (lookup w g a)) a (entries-rising w g next listed hpos dpos small v)
+      pick-in 0 (entries w g) (entryIn w (g .h) (lookup w g a)) a (entries-rising w g next listed hpos dpos small v)
       (found-in w g next listed hpos dpos small v a o) (found-address w g next listed hpos dpos small v a o)
 
   -- an unlisted one has neither Ori nor Cur
