@@ -11,18 +11,20 @@
 
 #define SEED 285u
 #define DATA_BYTES ((size_t)16 << 20) /* the data blocks of an array, rounded up to a whole stripe */
+#define SMALL_BYTES ((size_t)1 << 20) /* those of an array in cache */
 
-enum { MOST_DATA = 16, MOST_VARIANTS = 10, MOST_ROUNDS = 200 };
+enum { MOST_DATA = 16, MOST_VARIANTS = 13, MOST_ROUNDS = 200 };
 
-/* A stripe's works, those of a shelf over its whole array, those of a shelf with blocks listed, and the
-   test of the list alone. */
+/* A stripe's works, those of a shelf over its whole array, two rebuilds that only the comparison of the
+   layouts needs, those of a shelf with blocks listed, and the test of the list alone. */
 enum work {
     PARITY, ONE_BLOCK, TWO_BLOCKS, ALL_STRIPES,
     WRITE, READ, READ_ONE, READ_TWO, REBUILD_ONE, REBUILD_TWO, REBUILD_PARITY, FULL_RESYNC,
+    REBUILD_WITH_P, REBUILD_WITH_Q,
     LOG_AGAIN, LOG_NEW, RESYNC,
     TEST,
     WORKS,
-    SHELF_WORKS = WRITE, LIST_WORKS = LOG_AGAIN /* the first of a kind */
+    SHELF_WORKS = WRITE, MIXED_WORKS = REBUILD_WITH_P, LIST_WORKS = LOG_AGAIN /* the first of a kind */
 };
 
 struct job {
@@ -32,6 +34,11 @@ struct job {
     size_t len;       /* (d + 2) * s * b */
     uint8_t *bytes;   /* a stripe (data, P, Q), or an array kept by member */
     uint8_t *copy;    /* where memcpy and a read put the data */
+
+    /* The layout, what the bytes must be after each call in either layout, and the one that they are in
+       now, which the jobs of the same bytes share; null where there is only the fixed one. */
+    size_t layout, *laid;
+    uint8_t *sound[2];
 
     /* Of an array: the data blocks in the order of their addresses, the record, the log, the list. */
     uint8_t *data, *log, *list;
@@ -50,43 +57,52 @@ typedef void call_of_job(const struct job *job);
 struct variant {
     const char *name;
     bool wide;                /* its code may leave upper halves of vector registers in use */
+    size_t layout;            /* that it works in */
     call_of_job *call[WORKS]; /* null: it has no call for this work */
 };
 
-/* A line of a table: a job, what its bytes must be after each call, and for each variant how many
+/* A line of a table: a job in the fixed layout, which variants are timed, and for each of them how many
    calls fill a slice and what a call took in each round, in nanoseconds. */
 struct line {
     struct job job;
-    uint8_t *sound;
+    bool alone;    /* of those of the fixed layout only this library, and C to compare the layouts in */
+    bool rotating; /* the variants of the rotating layout too */
     uint64_t calls[MOST_VARIANTS];
     double times[MOST_VARIANTS][MOST_ROUNDS];
 };
 
 /* The variants (variants.c): this library first, then the one that results are held to, then the
-   other peers. The last is a call that only tests the list, the one before it the C test of the list. */
+   other peers. Some are told by their place from the end: a call that only tests the list, the C test of the
+   list, C and this library in the rotating layout, C in the fixed one beside it. takes_part: whether one is
+   timed on a line. */
+enum { LIST_TEST = 1, C_LIST_TEST, C_ROTATING, ROTATING, C_FIXED };
 extern const struct variant variants[];
 extern const unsigned variant_count;
+bool takes_part(const struct line *line, const struct variant *v);
 
-/* The timing (bench.c). turn_to comes before a job's calls; run_batch makes calls of a variant and
-   answers what they took, in nanoseconds. */
+/* The timing (bench.c). turn_to comes before a job's calls, and puts its bytes in its layout; run_batch
+   makes calls of a variant and answers what they took, in nanoseconds. */
 uint64_t next_random(void);
 void turn_to(const struct job *job);
 double run_batch(const struct variant *v, const struct job *job, uint64_t calls);
 
 /* The lines (jobs.c): by work, then by measures, and those with blocks listed by their number at
-   last; those of the test of the list are by d, then by slots, then by that number. They are made, and
-   each variant's results compared with what they must be. */
-enum { MEASURES = 4, COUNTS = 3, TEST_WIDTHS = 2, TEST_SLOTS = 3 };
+   last; those of the test of the list are by d, then by slots, then by that number; those of a small array
+   by number in laid_works, then by measures. They are made, and each variant's results compared with what
+   they must be. */
+enum { MEASURES = 4, COUNTS = 3, TEST_WIDTHS = 2, TEST_SLOTS = 3, LAID_WORKS = 8, LAID_COUNT = 1 };
 enum {
     LIST_LINES = LIST_WORKS * MEASURES,
     TEST_LINES = LIST_LINES + (TEST - LIST_WORKS) * MEASURES * COUNTS,
-    LINES = TEST_LINES + TEST_WIDTHS * TEST_SLOTS * COUNTS
+    SMALL_LINES = TEST_LINES + TEST_WIDTHS * TEST_SLOTS * COUNTS,
+    LINES = SMALL_LINES + LAID_WORKS * MEASURES
 };
 extern struct line lines[LINES];
 extern const uint32_t counts[COUNTS], test_counts[COUNTS];
+extern const enum work laid_works[LAID_WORKS];
 void make_lines(void);
 void check(const struct line *line);
-void compare(const struct line *line, const char *who);
+void compare(const struct job *job, const char *who);
 
 /* The report (report.c). fail ends the program with an error. */
 void fail(const struct job *job, const char *who, const char *what);
@@ -106,19 +122,31 @@ bool ours_passes(const struct job *job);
 void read_block(const struct job *job, struct shelf_record record, size_t address, uint8_t *to);
 call_of_job ours_write, ours_read, ours_read_lost, ours_rebuild, ours_full_resync, ours_log, ours_resync, ours_test;
 
+/* The layouts by C (layouts.c): a job in another one, the member that has a role in a stripe, where a
+   member's block stands in an array; and the bytes put in the job's layout, as they must be. turn_array
+   makes the array of the rotating layout from that of the fixed one. The calls work in either layout. */
+struct job in_layout(const struct job *job, size_t layout);
+uint32_t member_of(const struct job *job, uint32_t t, uint32_t role);
+size_t offset_of(const struct job *job, uint32_t member, uint32_t t);
+void lay_out(const struct job *job);
+void turn_array(const struct job *job);
+call_of_job c_write, c_read, c_rebuild, c_full_resync;
+
 /* Blocks copied by C (copies.c): block address of an array, a stripe from the data to the array, and
    all blocks from the array to the copy. */
 uint8_t *block_at(const struct job *job, size_t address);
 void put_stripe(const struct job *job, uint32_t t);
 call_of_job copy_data, copy_blocks;
 
-/* The C rows (rows.c): blocks of b bytes, each stride bytes after the one before it. init comes
-   before the others. They are there twice, with the doubling written in two ways. */
+/* The C rows (rows.c): blocks of b bytes, each stride bytes after the one before it, or, in the last two,
+   anywhere. init comes before the others. They are there twice, with the doubling written in two ways. */
 struct rows {
     void (*init)(void);
     void (*parity)(uint32_t d, size_t b, size_t stride, uint8_t *first);
     void (*recover_one)(uint32_t d, size_t b, uint32_t x, uint8_t *stripe);
     void (*recover_two)(uint32_t d, size_t b, uint32_t x, uint32_t y, uint8_t *stripe);
+    void (*parity_at)(uint32_t d, size_t b, uint8_t *const *blocks);
+    void (*recover_at)(uint32_t d, size_t b, uint32_t x, uint8_t *const *blocks);
 };
 extern const struct rows plain_rows, mask_rows;
 

@@ -6,10 +6,11 @@
 /* Where the block with an address stands in the array. */
 uint8_t *block_at(const struct job *job, size_t address)
 {
-    return job->bytes + (address % job->d * job->s + address / job->d) * job->b;
+    uint32_t t = (uint32_t)(address / job->d);
+    return job->bytes + offset_of(job, member_of(job, t, (uint32_t)(address % job->d)), t);
 }
 
-/* Puts the data blocks of stripe t in the array. */
+/* Puts the data blocks of stripe t in the array of the fixed layout. */
 void put_stripe(const struct job *job, uint32_t t)
 {
     size_t b = job->b, first = (size_t)t * job->d;
@@ -17,13 +18,13 @@ void put_stripe(const struct job *job, uint32_t t)
         memcpy(job->bytes + ((size_t)i * job->s + t) * b, job->data + (first + i) * b, b);
 }
 
-/* Copies the data members as they stand. */
+/* Copies the data members of the fixed layout as they stand. */
 void copy_data(const struct job *job)
 {
     memcpy(job->copy, job->bytes, (size_t)job->d * job->s * job->b);
 }
 
-/* Copies the data blocks one by one, in the order of their addresses. */
+/* Copies the data blocks of the fixed layout one by one, in the order of their addresses. */
 void copy_blocks(const struct job *job)
 {
     size_t b = job->b;

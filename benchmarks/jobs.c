@@ -15,6 +15,10 @@ const uint32_t counts[COUNTS] = {16, 256, PLACES};
 static const uint32_t test_widths[TEST_WIDTHS] = {5, 16}, test_slots[TEST_SLOTS] = {SLOTS, 16, 1};
 const uint32_t test_counts[COUNTS] = {64, 512, PLACES};
 
+/* The works that the layouts are compared in, and at last those that are only there in the fixed one. */
+const enum work laid_works[LAID_WORKS] = {FULL_RESYNC, WRITE, READ, REBUILD_ONE, REBUILD_TWO,
+                                          REBUILD_PARITY, REBUILD_WITH_P, REBUILD_WITH_Q};
+
 struct line lines[LINES];
 
 /* Bytes at the start of a page, all written once. */
@@ -29,7 +33,7 @@ static uint8_t *pages(size_t len)
     return memset(bytes, 1, len);
 }
 
-/* The members that a job's work makes or finds failed: one data disk, two, or P and Q. */
+/* The members that a job's work makes or finds failed: one data disk, two, one and P or Q, or P and Q. */
 static void name_members(struct job *job)
 {
     enum work w = job->work;
@@ -37,6 +41,10 @@ static void name_members(struct job *job)
     job->y = job->d + 1;
     if (w == ONE_BLOCK || w == READ_ONE || w == REBUILD_ONE)
         job->x = job->y = 2;
+    if (w == REBUILD_WITH_P || w == REBUILD_WITH_Q) {
+        job->x = 2;
+        job->y = w == REBUILD_WITH_P ? job->d : job->d + 1;
+    }
     if (w == TWO_BLOCKS || w == READ_TWO || w == REBUILD_TWO) {
         job->x = job->d == 5 ? 1 : 3;
         job->y = job->d == 5 ? 3 : 11;
@@ -55,7 +63,7 @@ static void fill(struct line *line)
     }
     turn_to(&making);
     run_batch(&variants[1], &making, 1);
-    line->sound = memcpy(pages(making.len), making.bytes, making.len);
+    line->job.sound[SHELF_FIXED] = memcpy(pages(making.len), making.bytes, making.len);
 }
 
 /* A line for one stripe, or for an array, of random bytes with their P and Q. */
@@ -78,17 +86,41 @@ static void lend(struct job *job, uint32_t h)
     format(job);
 }
 
-/* A line for a shelf: an array, what it is lent beside it, and the data in the order of addresses. */
-static struct line shelf_line(unsigned m, uint8_t *copy)
+/* Adds the rotating layout to a job: a fresh shelf of it gets all blocks by a write of this library's, and
+   must then be the array that C makes of the fixed one. */
+static void add_rotating(struct job *job)
+{
+    job->laid = (size_t *)pages(sizeof *job->laid);
+    job->sound[SHELF_ROTATING] = pages(job->len);
+    turn_array(job);
+    struct job turned = in_layout(job, SHELF_ROTATING);
+    format(&turned);
+    ours_write(&turned);
+    *job->laid = SHELF_ROTATING;
+    compare(&turned, "the first write in the rotating layout");
+    lay_out(job);
+}
+
+/* A line for a shelf: an array of so many bytes of data, what it is lent beside it, and the data in the
+   order of addresses. */
+static struct line shelf_line(unsigned m, size_t bytes, uint8_t *copy)
 {
     size_t stripe = (size_t)measures[m][0] * measures[m][1];
-    struct line line = random_line(ALL_STRIPES, m, (uint32_t)((DATA_BYTES + stripe - 1) / stripe), copy);
+    struct line line = random_line(ALL_STRIPES, m, (uint32_t)((bytes + stripe - 1) / stripe), copy);
     struct job *job = &line.job;
     lend(job, SLOTS);
-    memcpy(job->bytes, line.sound, job->len);
+    memcpy(job->bytes, job->sound[SHELF_FIXED], job->len);
     copy_blocks(job);
     job->data = memcpy(pages(stripe * job->s), copy, stripe * job->s);
+    add_rotating(job);
+    line.rotating = true;
     return line;
+}
+
+/* Whether a work is a rebuild. */
+static bool rebuilds(enum work work)
+{
+    return (work >= REBUILD_ONE && work <= REBUILD_PARITY) || work == REBUILD_WITH_P || work == REBUILD_WITH_Q;
 }
 
 /* The same shelf for another work, with the members failed that it names. */
@@ -98,7 +130,7 @@ static struct line with_work(const struct line *shelf, enum work work)
     struct job *job = &line.job;
     job->work = work;
     name_members(job);
-    if (work >= READ_ONE && work <= REBUILD_PARITY)
+    if (work == READ_ONE || work == READ_TWO || rebuilds(work))
         job->record.failed[job->x] = job->record.failed[job->y] = true;
     return line;
 }
@@ -110,10 +142,11 @@ static size_t address_of(const struct job *job, size_t k)
 }
 
 /* Makes a line of a shelf on which so many blocks are listed. The log's records above those that any
-   such shelf uses are left to the timed call. */
+   such shelf uses are left to the timed call. The rotating layout is timed with one number of blocks. */
 static void keep_listed(struct line *line, const struct line *shelf, enum work work, uint32_t count)
 {
     *line = with_work(shelf, work);
+    line->rotating = count == counts[LAID_COUNT];
     struct job *job = &line->job;
     job->listed = count;
     job->address = address_of(job, work == LOG_NEW ? count - 1 : count / 2);
@@ -166,9 +199,18 @@ static void test_line(struct line *line, uint32_t d, uint32_t h, uint32_t count)
     job->len = (size_t)(d + 2) * job->s * job->b;
     job->bytes = pages(job->len);
     lend(job, h);
-    line->sound = job->data = memcpy(pages(job->len), job->bytes, job->len);
+    job->sound[SHELF_FIXED] = job->data = memcpy(pages(job->len), job->bytes, job->len);
     start(job);
     list_blocks(job, count);
+}
+
+/* Makes the lines of a small array for a pair of measures. */
+static void small_lines(unsigned m, uint8_t *copy)
+{
+    struct line shelf = shelf_line(m, SMALL_BYTES, copy);
+    shelf.alone = true;
+    for (unsigned k = 0; k < LAID_WORKS; k++)
+        lines[SMALL_LINES + k * MEASURES + m] = with_work(&shelf, laid_works[k]);
 }
 
 /* Makes all lines. Those of an array share one for each pair of measures. */
@@ -176,13 +218,14 @@ void make_lines(void)
 {
     uint8_t *copy = pages(DATA_BYTES + MOST_DATA * PAGE);
     for (unsigned m = 0; m < MEASURES; m++) {
-        struct line shelf = shelf_line(m, copy);
+        struct line shelf = shelf_line(m, DATA_BYTES, copy);
         for (unsigned w = 0; w < LIST_WORKS; w++)
             lines[w * MEASURES + m] =
                 w < ALL_STRIPES ? random_line((enum work)w, m, 1, copy) : with_work(&shelf, (enum work)w);
         list_lines(&shelf, m);
+        small_lines(m, copy);
     }
-    for (unsigned k = 0; k < LINES - TEST_LINES; k++)
+    for (unsigned k = 0; k < SMALL_LINES - TEST_LINES; k++)
         test_line(&lines[TEST_LINES + k], test_widths[k / (TEST_SLOTS * COUNTS)], test_slots[k / COUNTS % TEST_SLOTS],
                   test_counts[k % COUNTS]);
 }
@@ -194,83 +237,78 @@ static void spoil(uint8_t *bytes, const uint8_t *sound, size_t len)
         bytes[k] = (uint8_t)~sound[k];
 }
 
-/* The same with the first stripes of a member, so many of them. */
-static void spoil_member(const struct line *line, uint32_t member, uint32_t stripes)
+/* Whether a job's call makes the block of a member that has a role: a write makes all, a rebuild those of
+   failed members, the others P and Q, or the data indices that they are told. */
+static bool makes(const struct job *job, uint32_t member, uint32_t role)
 {
-    const struct job *job = &line->job;
-    size_t from = (size_t)member * job->s * job->b;
-    spoil(job->bytes + from, line->sound + from, (size_t)stripes * job->b);
+    uint32_t n = rebuilds(job->work) ? member : role;
+    return job->work == WRITE || n == job->x || n == job->y;
+}
+
+/* Spoils the blocks that a job's call makes, or must not look at, in the first stripes, so many of them. */
+static void spoil_made(const struct job *job, uint32_t stripes)
+{
+    for (uint32_t t = 0; t < stripes; t++)
+        for (uint32_t i = 0; i < job->d + 2; i++) {
+            uint32_t member = member_of(job, t, i);
+            size_t from = offset_of(job, member, t);
+            if (makes(job, member, i))
+                spoil(job->bytes + from, job->sound[job->layout] + from, job->b);
+        }
 }
 
 /* Ends the program unless bytes are what they must be. */
-static void hold(const struct line *line, const char *who, const uint8_t *bytes, const uint8_t *sound, size_t len)
+static void hold(const struct job *job, const char *who, const uint8_t *bytes, const uint8_t *sound, size_t len)
 {
     if (memcmp(bytes, sound, len) != 0)
-        fail(&line->job, who, "the result differs");
+        fail(job, who, "the result differs");
 }
 
-/* Ends the program unless the job's bytes are what they must be. */
-void compare(const struct line *line, const char *who)
+/* Ends the program unless the job's bytes are what they must be in the layout that they are in. */
+void compare(const struct job *job, const char *who)
 {
-    hold(line, who, line->job.bytes, line->sound, line->job.len);
+    hold(job, who, job->bytes, job->sound[job->laid == NULL ? SHELF_FIXED : *job->laid], job->len);
 }
 
-/* Holds what a variant makes over spoilt members to the sound bytes. A write makes all members. */
-static void check_made(const struct line *line, const struct variant *v)
+/* Holds what a variant makes over spoilt blocks to the sound bytes; a resync makes stripe 0. */
+static void check_made(const struct job *job, const struct variant *v)
 {
-    const struct job *job = &line->job;
-    for (uint32_t i = 0; i < job->d + 2; i++)
-        if (job->work == WRITE || i == job->x || i == job->y)
-            spoil_member(line, i, job->s);
+    spoil_made(job, job->work == RESYNC ? 1 : job->s);
     run_batch(v, job, 1);
-    compare(line, v->name);
+    compare(job, v->name);
 }
 
 /* Holds what a variant reads to the data, or to the blocks of disk x while the failed disks are spoilt. */
-static void check_read(const struct line *line, const struct variant *v)
+static void check_read(const struct job *job, const struct variant *v)
 {
-    const struct job *job = &line->job;
     size_t member = (size_t)job->s * job->b;
     bool lost = job->work != READ;
-    const uint8_t *want = lost ? line->sound + job->x * member : job->data;
+    const uint8_t *want = lost ? job->sound[job->layout] + job->x * member : job->data;
     size_t len = lost ? member : job->d * member;
     spoil(job->copy, want, len);
-    if (lost) {
-        spoil_member(line, job->x, job->s);
-        spoil_member(line, job->y, job->s);
-    }
+    if (lost)
+        spoil_made(job, job->s);
     run_batch(v, job, 1);
-    hold(line, v->name, job->copy, want, len);
-    memcpy(job->bytes, line->sound, job->len);
+    hold(job, v->name, job->copy, want, len);
+    memcpy(job->bytes, job->sound[job->layout], job->len);
 }
 
 /* Holds a logged block to the data: as it is read after the call while its disk is spoilt and failed. */
-static void check_logged(const struct line *line, const struct variant *v)
+static void check_logged(const struct job *job, const struct variant *v)
 {
-    const struct job *job = &line->job;
     uint8_t *block = block_at(job, job->address);
-    const uint8_t *want = line->sound + (block - job->bytes);
+    const uint8_t *want = job->data + job->address * job->b;
     set_list(job);
     struct shelf_record after = log_blocks(job, job->address, 1);
     if (after.listed != job->listed)
         fail(job, v->name, "another number of blocks is listed");
-    compare(line, v->name);
+    compare(job, v->name);
     spoil(block, want, job->b);
     spoil(job->copy, want, job->b);
-    after.failed[job->address % job->d] = true;
+    after.failed[(block - job->bytes) / offset_of(job, 1, 0)] = true;
     read_block(job, after, job->address, job->copy);
-    hold(line, v->name, job->copy, want, job->b);
+    hold(job, v->name, job->copy, want, job->b);
     memcpy(block, want, job->b);
-}
-
-/* Holds the parity of stripe 0 that a resync makes to the sound bytes. */
-static void check_resync(const struct line *line, const struct variant *v)
-{
-    const struct job *job = &line->job;
-    spoil_member(line, job->x, 1);
-    spoil_member(line, job->y, 1);
-    run_batch(v, job, 1);
-    compare(line, v->name);
 }
 
 /* Compares the results of all variants that have one: a copy of all members and a test of the list beside
@@ -285,15 +323,15 @@ void check(const struct line *line)
     }
     for (unsigned k = 0; k < variant_count; k++) {
         const struct variant *v = &variants[k];
-        if (v->call[work] == NULL || v->call[work] == copy_data || v->call[work] == ours_test)
+        struct job job = in_layout(&line->job, v->layout);
+        if (!takes_part(line, v) || v->call[work] == copy_data || v->call[work] == ours_test)
             continue;
-        if (work == RESYNC)
-            check_resync(line, v);
-        else if (work >= LIST_WORKS)
-            check_logged(line, v);
+        turn_to(&job);
+        if (work >= LIST_WORKS && work != RESYNC)
+            check_logged(&job, v);
         else if (reads)
-            check_read(line, v);
+            check_read(&job, v);
         else
-            check_made(line, v);
+            check_made(&job, v);
     }
 }

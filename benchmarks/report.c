@@ -18,6 +18,8 @@ static const char *const titles[WORKS] = {
     [REBUILD_TWO] = "`shelf_rebuild` of two data disks",
     [REBUILD_PARITY] = "`shelf_rebuild` of P and Q",
     [FULL_RESYNC] = "`shelf_full_resync`",
+    [REBUILD_WITH_P] = "`shelf_rebuild` of a data disk and P",
+    [REBUILD_WITH_Q] = "`shelf_rebuild` of a data disk and Q",
     [LOG_AGAIN] = "`shelf_write` of a block that is listed",
     [LOG_NEW] = "`shelf_write` of a block that is not",
     [RESYNC] = "`shelf_resync`",
@@ -157,11 +159,28 @@ static void print_test_terms(void)
            __VERSION__, PLACES, damaged_lists);
 }
 
-/* Whether a variant has a call for one of some lines. */
-static bool takes_part(unsigned v, const struct line *from, const struct line *end)
+/* The same of the layouts. */
+static void print_layout_terms(void)
 {
+    printf("\nThe rotating layout beside the fixed one: what a call takes in either, in µs, and the time in the fixed"
+           " layout by that in the rotating one. Both work on the same bytes, put in the layout before a slice, which"
+           " does not count. The array has %zu MiB of data blocks, or %zu MiB, which stay in cache. The members"
+           " rebuilt are 2, or two: 1 and 3 (d 5), 3 and 11 (d 16). In the fixed layout they are data disks; in the"
+           " rotating one a member has a data block in d of d + 2 stripes and P or Q in two, where both are made. So a"
+           " rebuild is also held to the same stripes in the fixed layout: to the sum of what a stripe takes there that"
+           " has lost the same, by rebuilds of data disks, of P and Q, and of a data disk and one of these. The last"
+           " column is the ratio that C (memcpy, C rows by mask) gets for the same work in both layouts. The calls with"
+           " blocks listed are those of the table above, with %u listed.\n\n",
+           DATA_BYTES >> 20, SMALL_BYTES >> 20, counts[LAID_COUNT]);
+}
+
+/* Whether a variant has a column in a table of some lines: if it is timed on one, and not there for the
+   comparison of the layouts. */
+static bool has_column(unsigned v, const struct line *from, const struct line *end)
+{
+    bool layouts = v >= variant_count - C_FIXED && v <= variant_count - C_ROTATING;
     for (const struct line *line = from; line < end; line++)
-        if (variants[v].call[line->job.work] != NULL)
+        if (!layouts && takes_part(line, &variants[v]))
             return true;
     return false;
 }
@@ -172,7 +191,7 @@ static void print_heading(const struct line *from, const struct line *end)
     unsigned columns = 3;
     printf("| work | d | B | %s, GB/s |", variants[0].name);
     for (unsigned v = 1; v < variant_count; v++)
-        if (takes_part(v, from, end)) {
+        if (has_column(v, from, end)) {
             printf(" against %s |", variants[v].name);
             columns++;
         }
@@ -190,9 +209,11 @@ static void print_table(const struct line *from, const struct line *end, unsigne
         const struct job *job = &line->job;
         printf("| %s | %u | %u | %.1f |", titles[job->work], job->d, job->b, speed(line, 0, rounds));
         for (unsigned v = 1; v < variant_count; v++) {
-            if (variants[v].call[job->work] != NULL)
+            if (!has_column(v, from, end))
+                continue;
+            if (takes_part(line, &variants[v]))
                 printf(" %.2f (%.1f) |", ratio(line, v, rounds), speed(line, v, rounds));
-            else if (takes_part(v, from, end))
+            else
                 printf(" - |");
         }
         printf("\n");
@@ -216,6 +237,77 @@ static void print_listed(const char *by, const struct line *from, const struct l
     }
 }
 
+/* The line of a work, an array and a pair of measures. */
+static const struct line *line_of(enum work work, bool small, unsigned m)
+{
+    unsigned k = 0;
+    while (small && laid_works[k] != work)
+        k++;
+    return small ? &lines[SMALL_LINES + k * MEASURES + m] : &lines[work * MEASURES + m];
+}
+
+/* The rebuild in the fixed layout that loses the roles of members x and y in stripe t of the rotating one. */
+static enum work like_stripe(const struct job *turned, uint32_t t)
+{
+    uint32_t d = turned->d, lost[MOST_DATA + 2] = {0};
+    for (uint32_t i = 0; i < d + 2; i++) {
+        uint32_t member = member_of(turned, t, i);
+        lost[i] = member == turned->x || member == turned->y;
+    }
+    if (turned->x == turned->y)
+        return lost[d] || lost[d + 1] ? REBUILD_PARITY : REBUILD_ONE;
+    if (lost[d] && lost[d + 1])
+        return REBUILD_PARITY;
+    return lost[d] ? REBUILD_WITH_P : lost[d + 1] ? REBUILD_WITH_Q : REBUILD_TWO;
+}
+
+/* What a rebuild in the rotating layout would take if each stripe took the time that one with the same
+   roles lost takes in the fixed layout. */
+static double mixed_time(const struct job *job, bool small, unsigned m, unsigned rounds)
+{
+    struct job turned = in_layout(job, SHELF_ROTATING);
+    double sum = 0;
+    for (uint32_t t = 0; t < job->s; t++)
+        sum += clear_time(line_of(like_stripe(&turned, t), small, m), 0, rounds) / job->s;
+    return sum;
+}
+
+/* Prints a row of the table of the layouts: the times, their ratio, and for a rebuild the time of the
+   same stripes in the fixed layout. */
+static void print_layouts_row(const struct line *line, bool small, unsigned m, unsigned rounds)
+{
+    const struct job *job = &line->job;
+    unsigned v = variant_count - ROTATING, c = variant_count - C_ROTATING;
+    double rotating = clear_time(line, v, rounds);
+    printf("| %s | %zu | %u | %u | %.1f | %.1f | %.2f |", titles[job->work], (small ? SMALL_BYTES : DATA_BYTES) >> 20,
+           job->d, job->b, clear_time(line, 0, rounds) / 1e3, rotating / 1e3, 1 / ratio(line, v, rounds));
+    if (job->work == REBUILD_ONE || job->work == REBUILD_TWO) {
+        double mixed = mixed_time(job, small, m, rounds);
+        printf(" %.1f | %.2f |", mixed / 1e3, mixed / rotating);
+    } else
+        printf(" - | - |");
+    if (takes_part(line, &variants[c]))
+        printf(" %.2f |\n", clear_time(line, variant_count - C_FIXED, rounds) / clear_time(line, c, rounds));
+    else
+        printf(" - |\n");
+}
+
+/* Prints the table of the layouts. */
+static void print_layouts(unsigned rounds)
+{
+    printf("| work | MiB | d | B | fixed, µs | rotating, µs | fixed / rotating | the same stripes fixed, µs | that /"
+           " rotating | C: fixed / rotating |\n|---|---|---|---|---|---|---|---|---|---|\n");
+    for (unsigned k = 0; k < LAID_WORKS; k++)
+        for (unsigned n = 0; n < 2 * MEASURES; n++) {
+            const struct line *line = line_of(laid_works[k], n >= MEASURES, n % MEASURES);
+            if (takes_part(line, &variants[variant_count - ROTATING]))
+                print_layouts_row(line, n >= MEASURES, n % MEASURES, rounds);
+        }
+    for (const struct line *line = lines + LIST_LINES; line < lines + TEST_LINES; line++)
+        if (line->rotating)
+            print_layouts_row(line, false, 0, rounds);
+}
+
 /* Prints the terms, the tables, and below them how the ratios are with the machine's other load. */
 void print_report(unsigned rounds)
 {
@@ -223,11 +315,13 @@ void print_report(unsigned rounds)
     print_stripe_terms();
     print_table(lines, lines + SHELF_WORKS * MEASURES, rounds);
     print_shelf_terms();
-    print_table(lines + SHELF_WORKS * MEASURES, lines + LIST_LINES, rounds);
+    print_table(lines + SHELF_WORKS * MEASURES, lines + MIXED_WORKS * MEASURES, rounds);
     print_list_terms();
-    print_listed("B", lines + LIST_LINES, lines + TEST_LINES, counts, variant_count - 1, rounds);
+    print_listed("B", lines + LIST_LINES, lines + TEST_LINES, counts, variant_count - LIST_TEST, rounds);
     print_test_terms();
-    print_listed("H", lines + TEST_LINES, lines + LINES, test_counts, variant_count - 2, rounds);
+    print_listed("H", lines + TEST_LINES, lines + SMALL_LINES, test_counts, variant_count - C_LIST_TEST, rounds);
+    print_layout_terms();
+    print_layouts(rounds);
     printf("\nWith whatever else ran at the time, by the median over all rounds, a ratio was %.2f to %.2f times the"
            " one shown.\n", least_part, most_part);
 }

@@ -95,6 +95,24 @@ static void solve_rows(size_t b, uint8_t a, uint8_t c, uint8_t *restrict rx, uin
     }
 }
 
+/* P and Q of a stripe whose blocks stand anywhere: data, P, Q. */
+static void parity_at(uint32_t d, size_t b, uint8_t *const *blocks)
+{
+    memcpy(blocks[d], blocks[d - 1], b);
+    memcpy(blocks[d + 1], blocks[d - 1], b);
+    for (uint32_t i = d - 1; i-- > 0;)
+        step_row(b, blocks[d], blocks[d + 1], blocks[i]);
+}
+
+/* Data block x of such a stripe from P and the other data blocks. */
+static void recover_at(uint32_t d, size_t b, uint32_t x, uint8_t *const *blocks)
+{
+    memcpy(blocks[x], blocks[d], b);
+    for (uint32_t i = 0; i < d; i++)
+        if (i != x)
+            add_row(b, blocks[x], blocks[i]);
+}
+
 /* Data blocks x and y, x below y, from P, Q and the others; the product tables are filled in each
    call, since a call is told only the members. */
 static void recover_two(uint32_t d, size_t b, uint32_t x, uint32_t y, uint8_t *stripe)
@@ -113,4 +131,4 @@ static void recover_two(uint32_t d, size_t b, uint32_t x, uint32_t y, uint8_t *s
     solve_rows(b, powers[(y - x + 255 - under) % 255], powers[(510 - x - under) % 255], rx, ry, p, p + b);
 }
 
-const struct rows ROWS = {init, parity, recover_one, recover_two};
+const struct rows ROWS = {init, parity, recover_one, recover_two, parity_at, recover_at};

@@ -1,6 +1,7 @@
 /* The variants that are timed: for each work, the call of this library's archives, of ISA-L where
    it is there, by the code that it chooses and by that for SSE, of the C rows with the doubling in
-   two spellings, of memcpy, of the C test of the list, and of a call that only tests the list. */
+   two spellings, of memcpy, of C that knows the layouts and of the archives in the rotating layout, of the
+   C test of the list, and of a call that only tests the list. */
 #include "bench.h"
 #include "stripe.h"
 
@@ -65,26 +66,43 @@ CALLS_OF(mask)
      [READ_TWO] = set##_encode_all, [REBUILD_TWO] = set##_encode_all}
 #define ROWS_OF(set)                                                                               \
     {[PARITY] = set##_parity, [ONE_BLOCK] = set##_one, [TWO_BLOCKS] = set##_two, [ALL_STRIPES] = set##_all}
+#define LAYOUTS_IN_C                                                                               \
+    {[WRITE] = c_write, [READ] = c_read, [REBUILD_ONE] = c_rebuild, [FULL_RESYNC] = c_full_resync}
 
 const struct variant variants[] = {
-    {ours, false,
+    {ours, false, SHELF_FIXED,
      {[PARITY] = ours_parity, [ONE_BLOCK] = ours_recover, [TWO_BLOCKS] = ours_recover, [ALL_STRIPES] = ours_all,
       [WRITE] = ours_write, [READ] = ours_read, [READ_ONE] = ours_read_lost, [READ_TWO] = ours_read_lost,
       [REBUILD_ONE] = ours_rebuild, [REBUILD_TWO] = ours_rebuild, [REBUILD_PARITY] = ours_rebuild,
-      [FULL_RESYNC] = ours_full_resync, [LOG_AGAIN] = ours_log, [LOG_NEW] = ours_log, [RESYNC] = ours_resync,
-      [TEST] = ours_test}},
+      [FULL_RESYNC] = ours_full_resync, [REBUILD_WITH_P] = ours_rebuild, [REBUILD_WITH_Q] = ours_rebuild,
+      [LOG_AGAIN] = ours_log, [LOG_NEW] = ours_log, [RESYNC] = ours_resync, [TEST] = ours_test}},
 #ifdef WITH_ISAL
-    {"ISA-L pq_gen, xor_gen", true, SUMS_OF(isal)},
-    {"the same for SSE", false, SUMS_OF(isal_sse)},
-    {"ISA-L ec_encode_data", true, PRODUCTS_OF(isal)},
-    {"the same for SSE", false, PRODUCTS_OF(isal_sse)},
+    {"ISA-L pq_gen, xor_gen", true, SHELF_FIXED, SUMS_OF(isal)},
+    {"the same for SSE", false, SHELF_FIXED, SUMS_OF(isal_sse)},
+    {"ISA-L ec_encode_data", true, SHELF_FIXED, PRODUCTS_OF(isal)},
+    {"the same for SSE", false, SHELF_FIXED, PRODUCTS_OF(isal_sse)},
 #endif
-    {"C rows", false, ROWS_OF(plain)},
-    {"C rows by mask", false, ROWS_OF(mask)},
-    {"memcpy", false,
+    {"C rows", false, SHELF_FIXED, ROWS_OF(plain)},
+    {"C rows by mask", false, SHELF_FIXED, ROWS_OF(mask)},
+    {"memcpy", false, SHELF_FIXED,
      {[PARITY] = copy_data, [ONE_BLOCK] = copy_data, [TWO_BLOCKS] = copy_data, [ALL_STRIPES] = copy_data,
       [READ] = copy_blocks}},
-    {"C test of the list", false, {[TEST] = c_test}},
-    {"list test", false, {[LOG_AGAIN] = ours_test, [LOG_NEW] = ours_test, [RESYNC] = ours_test}},
+    {"C in the fixed layout", false, SHELF_FIXED, LAYOUTS_IN_C},
+    {"this library in the rotating layout", false, SHELF_ROTATING,
+     {[WRITE] = ours_write, [READ] = ours_read, [REBUILD_ONE] = ours_rebuild, [REBUILD_TWO] = ours_rebuild,
+      [FULL_RESYNC] = ours_full_resync, [LOG_AGAIN] = ours_log, [LOG_NEW] = ours_log, [RESYNC] = ours_resync}},
+    {"C in the rotating layout", false, SHELF_ROTATING, LAYOUTS_IN_C},
+    {"C test of the list", false, SHELF_FIXED, {[TEST] = c_test}},
+    {"list test", false, SHELF_FIXED, {[LOG_AGAIN] = ours_test, [LOG_NEW] = ours_test, [RESYNC] = ours_test}},
 };
 const unsigned variant_count = sizeof variants / sizeof variants[0];
+
+/* Whether a variant is timed on a line. */
+bool takes_part(const struct line *line, const struct variant *v)
+{
+    if (v->call[line->job.work] == NULL)
+        return false;
+    if (v->layout == SHELF_ROTATING)
+        return line->rotating;
+    return !line->alone || v == variants || v == &variants[variant_count - C_FIXED];
+}

@@ -4,33 +4,48 @@
  * What it is
  * ----------
  *
- * A shelf has d data disks, P and Q, S stripes of blocks of B bytes, a log of L records of B bytes, and a list of the
- * blocks whose parity is put off: H hash slots and E places. The members are numbered: data 0 to d - 1, P is d, Q is
- * d + 1, the log is d + 2; the array members are all but the log. The block with address a, 0 to d * S - 1, is in
- * stripe a / d, rounded down, on data disk a mod d.
+ * A shelf has an array of d + 2 members with S stripes of blocks of B bytes, a log of L records of B bytes, and a list
+ * of the blocks whose parity is put off: H hash slots and E places. The members are numbered: those of the array 0 to
+ * d + 1, the log is d + 2. A stripe has a block on each array member: d data blocks and the parity, P and Q. The block
+ * with address a, 0 to d * S - 1, is in stripe a / d, rounded down, and has data index a mod d there.
+ *
+ * The layout tells which array member has which block of a stripe. With N for d + 2:
+ *
+ *     SHELF_FIXED      data index i is on member i, P on d, Q on d + 1, in every stripe: the members are d data disks,
+ *                      P and Q
+ *     SHELF_ROTATING   stripe t has P on member N - 1 - (t mod N), Q on the member after it, data index 0 on the member
+ *                      after Q, and the other data indices following, all counted round from N - 1 to 0; so all members
+ *                      take their share of the parity. With d 2:
+ *
+ *                          stripe     member 0     member 1     member 2     member 3
+ *                            0           Q          data 0       data 1         P
+ *                            1         data 0       data 1         P            Q
+ *                            2         data 1         P            Q          data 0
+ *                            3           P            Q          data 0       data 1
+ *                            4           Q          data 0       data 1         P
  *
  * The parity of a stripe, P and Q, is that of stripe.h. A write makes it at once, or puts it off: then it appends
  * blocks to the log, lists them, stores the new blocks on their disks and leaves P and Q as they were. A stripe with a
  * listed block is stale; a resync makes its parity later. Two members may have failed at a time, the log included, and
- * blocks of failed disks are read all the same (degraded read), save in one state that is named below.
+ * blocks of failed members are read all the same (degraded read), save in one state that is named below.
  *
  * On a shelf that these calls alone have changed since shelf_format, each call given the record that the one before
- * handed back, and the bytes of failed members left aside, every block that a read hands over and every block that a
- * rebuild puts on a failed data disk is the one last written at its address, or zeros if none was. A member is trusted
- * until shelf_fail has noted its failure, so a driver reports a failure before it makes another call. Nothing is
- * promised of record and buffers if a call was cut short.
+ * handed back, and the bytes of failed members left aside, every block that a read hands over and every data block
+ * that a rebuild puts on a failed member is the one last written at its address, or zeros if none was. A member is
+ * trusted until shelf_fail has noted its failure, so a driver reports a failure before it makes another call. Nothing
+ * is promised of record and buffers if a call was cut short.
  *
  *
  * Buffers
  * -------
  *
  * The shelf is a record and three buffers, all the caller's; the library keeps nothing between calls and allocates
- * nothing. A call takes the record by value and hands the new one back. Arguments and fields of the record, but buffers
- * and flags, are size_t, of 64 bits. The buffers are at any alignment, and those of one call do not overlap:
+ * nothing. A call takes the record by value and hands the new one back. Arguments and fields of the record, but
+ * buffers and flags, are size_t, of 64 bits. The buffers are at any alignment, and those of one call do not overlap:
  *
  *     buffer   bytes               what stands where
  *     array    (d + 2) * S * B     the block of member m in stripe t, B bytes, at (m * S + t) * B;
- *                                  so block address a at ((a mod d) * S + a / d) * B
+ *                                  so in the fixed layout block address a at ((a mod d) * S + a / d) * B
  *     log      L * B               record r, B bytes, at r * B
  *     list     4 * H + 16 * E      the head of slot i, a word, at 4 * i;
  *                                  place p, four words, at 4 * H + 16 * p:
@@ -47,9 +62,9 @@
  *
  * The list has one arrangement. The listed blocks fill the places 0 to listed - 1, which are the listed places, in
  * rising address; every word of the unused places behind them is none. The slot of address a is a mod H. The slot's
- * chain begins at its head, goes on by Next until none, and rises: the head is the lowest place whose address is of the
- * slot, and Next is the next higher place of the slot; either is none if there is no such place. With H 2 and E 4, and
- * blocks 1, 3 and 4 listed:
+ * chain begins at its head, goes on by Next until none, and rises: the head is the lowest place whose address is of
+ * the slot, and Next is the next higher place of the slot; either is none if there is no such place. With H 2 and E 4,
+ * and blocks 1, 3 and 4 listed:
  *
  *              at   slot      head
  *     .-------  0     0         2
@@ -71,8 +86,9 @@
  *     shelf_write         the blocks written; P and Q of a       free records, if a      the entries of the stripes
  *                         stripe that is not logged              stripe is logged        written, if they change
  *     shelf_resync        P and Q of the stripe made             nothing                 the entries of that stripe
- *     shelf_rebuild       the failed data disks; P and Q of      nothing                 all of it, if P or Q had
- *                         every stripe, if P or Q had failed                             failed; else nothing
+ *     shelf_rebuild       the data blocks on failed members;     nothing                 the entries of the stripes
+ *                         P and Q of the stripes in which one                            whose P and Q it makes
+ *                         of them is on a failed member
  *     shelf_full_resync   P and Q of every stripe                nothing                 all of it
  *     shelf_read          nothing: it stores into the caller's data
  *     shelf_start, shelf_fail, shelf_new_log                     nothing
@@ -80,14 +96,14 @@
  * Where it says all of it, every byte of array and log becomes 0 and every word of the list none. Where entries of the
  * list change, it is arranged for the blocks that are then listed: the other entries say what they said, but those of
  * higher stripes may stand in other places, and heads and Next go with the places. All else keeps its bytes, and a
- * buffer into which a call never stores is const. So what an accepted call is given determines the record that it hands
- * back and every byte of array, log and list.
+ * buffer into which a call never stores is const. So what an accepted call is given determines the record that it
+ * hands back and every byte of array, log and list.
  *
- * Threads: calls that store into none of the shelf's buffers (shelf_read with data of its own, shelf_start, shelf_fail,
- * shelf_new_log) may run at the same time over the same buffers, in any number. Each hands back a record of its own,
- * made from the one that it was given, and the caller decides which one counts: two shelf_fail that are given the same
- * record hand back two records with a new flag each, and none with both. A call that takes a buffer as not const runs
- * while no other call is given that buffer. Calls over other buffers are independent.
+ * Threads: calls that store into none of the shelf's buffers (shelf_read with data of its own, shelf_start,
+ * shelf_fail, shelf_new_log) may run at the same time over the same buffers, in any number. Each hands back a record
+ * of its own, made from the one that it was given, and the caller decides which one counts: two shelf_fail that are
+ * given the same record hand back two records with a new flag each, and none with both. A call that takes a buffer as
+ * not const runs while no other call is given that buffer. Calls over other buffers are independent.
  *
  * Failed members: no number, no record and no byte that a call stores depends on the bytes of a failed member, so they
  * may be anything, and may change between calls. Only shelf_rebuild stores into a failed array member, and nothing
@@ -99,11 +115,14 @@
  * newer record can pass every test, and a read then gives an older block. The flags of a record are bytes of 0 or 1: a
  * record that was read from a disk is tested for this by the driver, since a call cannot.
  *
- * A shelf of an earlier version may have a list in another arrangement, with anything in its unused places. If no block
- * is listed, as in mode 0, it is carried over by filling its list with none, every byte 255, before the first call;
- * without that, calls may answer SHELF_BAD_LIST. If blocks are listed, the earlier version leads it to mode 0 first, by
- * shelf_resync. Where all array members are sound, shelf_full_resync will do in either case: it does not look at the
- * list, and leaves none in every word.
+ * A record of an earlier version has no layout: its shelf has the fixed one. The layout of a shelf is never changed:
+ * it is part of the geometry with which it was formatted.
+ *
+ * A shelf of an earlier version may have a list in another arrangement, with anything in its unused places. If no
+ * block is listed, as in mode 0, it is carried over by filling its list with none, every byte 255, before the first
+ * call; without that, calls may answer SHELF_BAD_LIST. If blocks are listed, the earlier version leads it to mode 0
+ * first, by shelf_resync. Where all array members are sound, shelf_full_resync will do in either case: it does not
+ * look at the list, and leaves none in every word.
  *
  * Stack: shelf_write, shelf_read and shelf_rebuild need up to 8 KiB of stack, the others less than 2 KiB (as compiled
  * here for x86-64), and there is no recursion. In shelf_read and shelf_rebuild most of it goes to a working block of
@@ -123,7 +142,7 @@
  *     shelf_start         goes from mode 0 to mode 1: parity is put off          1  2  3  7  8  9
  *     shelf_fail          notes that a member has failed                         1  2  3  6 10 11
  *     shelf_write         writes blocks                                          1  2  3  4  5  8
- *     shelf_read          reads blocks, from failed disks too                    1  2  3  4  5 14
+ *     shelf_read          reads blocks, from failed members too                  1  2  3  4  5 14
  *     shelf_resync        makes the parity of the lowest stale stripe            1  2  3  7  8
  *     shelf_rebuild       fills all failed array members                         1  2  3 12 14
  *     shelf_new_log       takes a new log into use                               1  2  3 12 13
@@ -131,13 +150,14 @@
  *
  * Time: every call but shelf_format and shelf_full_resync tests the whole list, by one pass over the E places and one
  * walk over the slots and their chains. It looks nothing up, so the time grows with E, H and the count of listed
- * blocks, however long the chains are. To look a block up, a call goes along its slot's chain, which many slots keep short: where blocks are listed,
- * shelf_write does so for the blocks of each stripe that it writes, shelf_read and shelf_rebuild for the blocks of
- * stripes in which they give one of a failed disk. shelf_resync looks nothing up: the lowest stale stripe is that of
- * place 0. To alter the list, a call moves entries to their new places and makes the chains anew: shelf_write
- * once for each stripe that is logged or whose entries are dropped, shelf_resync once. Nothing is sorted, and the time
- * grows with H and the count of listed blocks, not with E. To work a block back by parity, d others are read; if
- * another data block of the stripe is missing too, those that are data are read twice.
+ * blocks, however long the chains are. To look a block up, a call goes along its slot's chain, which many slots keep
+ * short: where blocks are listed, shelf_write does so for the blocks of each stripe that it writes, shelf_read and
+ * shelf_rebuild for the blocks of stripes in which they give one of a failed member. shelf_resync looks nothing up:
+ * the lowest stale stripe is that of place 0. To alter the list, a call moves entries to their new places and makes
+ * the chains anew: shelf_write once for each stripe that is logged or whose entries are dropped, shelf_resync and
+ * shelf_rebuild once. Nothing is sorted, and the time grows with H and the count of listed blocks, not with E. To work
+ * a block back by parity, d others are read; if another data block of the stripe is missing too, those that are data
+ * are read twice. shelf_rebuild goes through the stripes once, whatever the failed members have in them.
  *
  *
  * States
@@ -153,13 +173,18 @@
  *
  * Mode 0 becomes 1 by shelf_start alone. Mode 1 becomes 2 or, if no block is listed, 0 where the log fails; it becomes
  * 2 or, if no block is left listed, 0 by shelf_resync. Mode 2 becomes 0 as soon as no block is left listed, by
- * shelf_resync or shelf_write. Any mode becomes 0 by shelf_format, by shelf_full_resync, and by shelf_rebuild if P or Q
- * had failed. All else leaves the mode as it is: a write in mode 0 or 1, a failure of an array member, a failure of the
- * log in mode 0 or 2, a rebuild of data disks alone, a read, a new log.
+ * shelf_resync, shelf_write or shelf_rebuild. Any mode becomes 0 by shelf_format, by shelf_full_resync, and by
+ * shelf_rebuild if it makes P and Q of a stripe and no block is left listed. All else leaves the mode as it is: a
+ * write in mode 0 or 1, a failure of an array member, a failure of the log in mode 0 or 2, a rebuild that makes no
+ * parity or leaves blocks listed, a read, a new log.
  *
- * What the calls answer in each state, where the record, the lengths, the list and the request are in order. "data" is
- * one or two data disks and no parity; "P or Q" is one of them or both, or one of them and a data disk (with the log
- * failed, one array member at most has failed). The mode is one that the state can have.
+ * What a rebuild makes and drops goes by stripe: it makes P and Q of a stripe and drops its listed blocks if P or Q of
+ * that stripe is on a failed member. In the fixed layout these are all stripes if member d or d + 1 has failed, and
+ * none if data disks alone have. In the rotating layout a member has P of one stripe in N, Q of another, and data of
+ * the others, so a rebuild of one member leaves the other stripes stale that were so.
+ *
+ * What the calls answer in each state, where the record, the lengths, the list and the request are in order. "some" is
+ * one or two array members (with the log failed, one). The mode is one that the state can have.
  *
  *     failed in   log      a stripe   mode      start   write   resync   rebuild   new_log   full_resync
  *     the array            is stale
@@ -168,20 +193,16 @@
  *     none        sound    yes        1, 2        7       0       0        12        12          0
  *     none        failed   no         0           9       0       7        12         0          0
  *     none        failed   yes        2           7       0       0        12        13          0
- *     data        sound    no         0           8       8       7         0        12          8
- *     data        sound    no         1           7       8       8         0        12          8
- *     data        sound    yes        1, 2        7       8       8         0        12          8
- *     data        failed   no         0           8       8       7         0         0          8
- *     data        failed   yes        2           7       8       8        14        13          8
- *     P or Q      sound    no         0           8       8       7         0        12          8
- *     P or Q      sound    no         1           7       8       8         0        12          8
- *     P or Q      sound    yes        1, 2        7       8       8         0        12          8
- *     P or Q      failed   no         0           8       8       7         0         0          8
- *     P or Q      failed   yes        2           7       8       8         0        13          8
+ *     some        sound    no         0           8       8       7         0        12          8
+ *     some        sound    no         1           7       8       8         0        12          8
+ *     some        sound    yes        1, 2        7       8       8         0        12          8
+ *     some        failed   no         0           8       8       7         0         0          8
+ *     some        failed   yes        2           7       8       8       0, 14      13          8
  *
- * shelf_read answers 0 in all of them; only with a data disk and the log failed and a stripe stale does it answer 14 if
- * it asks for a block on the failed disk in a stale stripe. shelf_fail answers 0 for a sound member while fewer than
- * two have failed, 11 for a sound member while two have failed, and 10 for a member that has failed.
+ * In the last row shelf_rebuild answers 14 if the failed member has a data block in a stale stripe, and 0 if it has P
+ * or Q in each of them. In that row shelf_read answers 14 if it asks for a block on the failed member in a stale
+ * stripe; in all other cases it answers 0. shelf_fail answers 0 for a sound member while fewer than two have failed,
+ * 11 for a sound member while two have failed, and 10 for a member that has failed.
  *
  * The way back to a sound shelf, each call of which is accepted; after it the mode is 0, or as said:
  *
@@ -190,43 +211,43 @@
  *     none        sound    yes        shelf_resync until the mode is 0; or shelf_full_resync
  *     none        failed   no         shelf_new_log
  *     none        failed   yes        shelf_resync until the mode is 0, or shelf_full_resync; then shelf_new_log
- *     data        sound    no         shelf_rebuild; the mode remains
- *     data        sound    yes        shelf_rebuild; then shelf_resync until the mode is 0, or shelf_full_resync
- *     data        failed   no         shelf_rebuild and shelf_new_log, in either order
- *     data        failed   yes        none: see below
- *     P or Q      sound    either     shelf_rebuild
- *     P or Q      failed   no         shelf_rebuild and shelf_new_log, in either order
- *     P or Q      failed   yes        shelf_rebuild, then shelf_new_log
+ *     some        sound    no         shelf_rebuild; the mode remains, if it makes no parity
+ *     some        sound    yes        shelf_rebuild; then, if blocks are left listed, shelf_resync until the mode is 0,
+ *                                     or shelf_full_resync
+ *     some        failed   no         shelf_rebuild and shelf_new_log, in either order
+ *     some        failed   yes        shelf_rebuild, then shelf_new_log, if shelf_rebuild answers 0; else none, see
+ *                                     below
  *
- * With k stripes stale and no array member failed, k calls of shelf_resync lead to mode 0, and no fewer; in mode 1 with
- * none stale, one does. shelf_rebuild fills all failed array members in one call. A sound shelf in mode 0 takes
+ * With k stripes stale and no array member failed, k calls of shelf_resync lead to mode 0, and no fewer; in mode 1
+ * with none stale, one does. shelf_rebuild fills all failed array members in one call. A sound shelf in mode 0 takes
  * shelf_start again.
  *
- * A data disk and the log failed while a stripe is stale: there is no way back. shelf_rebuild gets 14, shelf_write 8,
- * and so do shelf_resync and shelf_full_resync; shelf_new_log gets 13, shelf_start 7. No call changes the shelf any
- * more, save shelf_format. What can be read are all blocks on sound disks, and those of the failed disk in stripes that
- * are not stale. So when the log fails while a stripe is stale, resync at once; and when a data disk fails while a
- * stripe is stale, rebuild and resync at once.
+ * The log failed, and an array member that has a data block in a stale stripe: there is no way back. shelf_rebuild
+ * gets 14, shelf_write 8, and so do shelf_resync and shelf_full_resync; shelf_new_log gets 13, shelf_start 7. No call
+ * changes the shelf any more, save shelf_format. What can be read are all blocks on sound members, and those of the
+ * failed one in stripes that are not stale. So when the log fails while a stripe is stale, resync at once; and when an
+ * array member fails while a stripe is stale, rebuild and resync at once.
  *
  * SHELF_WITHHELD (14) refuses a read as a whole and names no block. To read those that are not withheld, ask again
  * block by block.
  *
  * A third failure cannot be noted: shelf_fail answers 11, and the calls go on trusting the member. Make no other call
  * then than one that clears a flag and does not look at that member, and report it after that: shelf_new_log, if the
- * log is one of the two and no block is listed; shelf_rebuild, if the third is the log, and no stripe is stale or P and
- * Q are the two, or if the two are the log and one of P and Q, and the third is the other of these.
+ * log is one of the two and no block is listed; shelf_rebuild, if the third is the log, and no stripe is stale or the
+ * two have P and Q in each stale stripe; in the fixed layout shelf_rebuild too, if the two are the log and one of P
+ * and Q, and the third is the other of these.
  *
- * The list is lost (SHELF_BAD_LIST, 3): every call but shelf_format and shelf_full_resync answers 3, shelf_fail too, so
- * a disk that fails now cannot be reported. shelf_full_resync does not look at the list. It trusts every data disk:
- * with a dead one it makes P and Q of garbage, and the blocks of that disk cannot be recovered afterwards. So the
- * driver makes sure that all data disks work before it calls. With the flag of an array member set the call answers 8,
- * and no call leads on; a failed log does not hinder it. If the record is lost too, one with the geometry, mode 0, next
- * 0, listed 0, and no flag but that of a failed log serves as well.
+ * The list is lost (SHELF_BAD_LIST, 3): every call but shelf_format and shelf_full_resync answers 3, shelf_fail too,
+ * so a disk that fails now cannot be reported. shelf_full_resync does not look at the list. It trusts every data
+ * block: with a dead disk it makes P and Q of garbage, and the blocks of that disk cannot be recovered afterwards. So
+ * the driver makes sure that all disks with data work before it calls. With the flag of an array member set the call
+ * answers 8, and no call leads on; a failed log does not hinder it. If the record is lost too, one with the geometry,
+ * mode 0, next 0, listed 0, and no flag but that of a failed log serves as well.
  *
- * The log's cycle: to log a stripe takes a record for each block that is written and each that is pre-read, and a place
- * for each of these blocks that is not yet listed; at most d of either. Records are not used again one by one: next
- * goes back to 0 when the last listed block is dropped, and at no other time. Where log or list have no room for a
- * stripe, its parity is made at once and its entries are dropped, other stripes keep theirs, the mode remains 1, and
+ * The log's cycle: to log a stripe takes a record for each block that is written and each that is pre-read, and a
+ * place for each of these blocks that is not yet listed; at most d of either. Records are not used again one by one:
+ * next goes back to 0 when the last listed block is dropped, and at no other time. Where log or list have no room for
+ * a stripe, its parity is made at once and its entries are dropped, other stripes keep theirs, the mode remains 1, and
  * nothing is refused: the write only takes the time that was to be put off. In mode 1 a stripe is sure to be logged
  * while next + d is at most L and listed + d at most E. So watch both; when one of them comes near, call shelf_resync
  * until the mode is 0, then shelf_start.
@@ -259,6 +280,10 @@ extern "C" {
 #define SHELF_MIN_PLACES 1
 #define SHELF_MAX_PLACES 4096
 
+/* The layouts: which member has P, Q and the data blocks of a stripe. */
+#define SHELF_FIXED 0
+#define SHELF_ROTATING 1
+
 /* The word of the list that means none. */
 #define SHELF_NONE UINT32_C(0xffffffff)
 
@@ -271,7 +296,8 @@ extern "C" {
 #define SHELF_TRANSITIONAL 2 /* blocks are listed */
 
 /* The numbers answered, in the order in which they are tried; SHELF_OK where no other applies. */
-#define SHELF_BAD_RECORD 1      /* a measure is outside its range, or the rest of the record is impossible: see below */
+#define SHELF_BAD_RECORD 1      /* a measure is outside its range, the layout is neither, or the rest of the record is
+                                 * impossible: see below */
 #define SHELF_BAD_LENGTH 2      /* array_len, log_len or list_len is not what the measures ask for */
 #define SHELF_BAD_LIST 3        /* the list is impossible, or not in its one arrangement: see below */
 #define SHELF_BAD_ADDRESS 4     /* count is 0, or address + count is above d * S, as a sum without overflow */
@@ -285,17 +311,17 @@ extern "C" {
 #define SHELF_NOT_FAILED 12     /* no array member has failed (shelf_rebuild); the log is sound (shelf_new_log) */
 #define SHELF_LISTED 13         /* blocks are listed */
 #define SHELF_WITHHELD 14       /* the log has failed, and a block that is asked for (shelf_read), or any data block
-                                 * (shelf_rebuild), is on a failed disk in a stale stripe */
+                                 * (shelf_rebuild), is on a failed member in a stale stripe */
 #define SHELF_OK 0
 
-/* The record gets SHELF_BAD_RECORD, beside measures outside their ranges, where
+/* The record gets SHELF_BAD_RECORD, beside measures outside their ranges and a layout above SHELF_ROTATING, where
  *
  *   - the mode is above 2; or it is 0 and listed above 0, 2 and listed 0, or 1 and the log has failed;
  *   - a flag above that of member d + 2 is set, or more than two flags are;
  *   - next is above L, listed is above E, or listed is 0 and next above 0.
  *
- * shelf_format looks at the measures only. The list gets SHELF_BAD_LIST, from all calls but shelf_format and
- * shelf_full_resync, where
+ * shelf_format looks at the measures and the layout only. The list gets SHELF_BAD_LIST, from all calls but
+ * shelf_format and shelf_full_resync, where
  *
  *   - the blocks in the list are more or fewer than listed, or do not fill the places from 0 on: one of the places 0 to
  *     listed - 1 has no address, or a word of a place from listed on is not none;
@@ -314,12 +340,13 @@ extern "C" {
 
 /* The measures of a shelf. */
 struct shelf_geometry {
-    size_t d; /* data disks, 2 to 16 */
-    size_t s; /* S: stripes, 1 to 65536 */
-    size_t b; /* B: bytes of a block and of a log record, 1 to 4096 */
-    size_t l; /* L: records of the log, 1 to 65536 */
-    size_t h; /* H: slots of the list, 1 to 256 */
-    size_t e; /* E: places of the list, 1 to 4096 */
+    size_t d;      /* data blocks of a stripe, 2 to 16 */
+    size_t s;      /* S: stripes, 1 to 65536 */
+    size_t b;      /* B: bytes of a block and of a log record, 1 to 4096 */
+    size_t l;      /* L: records of the log, 1 to 65536 */
+    size_t h;      /* H: slots of the list, 1 to 256 */
+    size_t e;      /* E: places of the list, 1 to 4096 */
+    size_t layout; /* SHELF_FIXED or SHELF_ROTATING */
 };
 
 /* The record of a shelf. */
@@ -386,7 +413,7 @@ struct shelf_answer shelf_fail(struct shelf_record shelf, size_t member, const u
 
 /* Writes blocks.
  *
- * Answers 0, 1, 2, 3, 4, 5 or 8. With 0, the blocks are on their data disks. The stripes are taken in rising order, and
+ * Answers 0, 1, 2, 3, 4, 5 or 8. With 0, the blocks are on their members. The stripes are taken in rising order, and
  * each is finished before the next:
  *
  *   - In mode 1, if log and list have room for it, the stripe is logged. The unlisted ones of the blocks to be written
@@ -405,9 +432,9 @@ struct shelf_answer shelf_write(struct shelf_record shelf, size_t address, size_
 /* Reads blocks.
  *
  * Answers 0, 1, 2, 3, 4, 5 or 14. With 0, data holds the blocks; else it has the bytes that it had. The record handed
- * back is the given one. A block on a sound disk is taken from there. A block on a failed disk is taken from its Cur,
+ * back is the given one. A block on a sound member is taken from there. A block on a failed one is taken from its Cur,
  * else from its Ori, else it is worked back by parity from the originals of its stripe: a listed block's Ori, an
- * unlisted one's bytes if its disk is sound, and P and Q as far as they are sound.
+ * unlisted one's bytes if its member is sound, and P and Q as far as theirs are.
  */
 struct shelf_answer shelf_read(struct shelf_record shelf, size_t address, size_t count, uint8_t *data, size_t data_len,
                                const uint8_t *array, size_t array_len, const uint8_t *log, size_t log_len,
@@ -417,18 +444,19 @@ struct shelf_answer shelf_read(struct shelf_record shelf, size_t address, size_t
  *
  * Answers 0, 1, 2, 3, 7 or 8, and the stripe. With 0 and a stripe below S, that stripe was made; in the record handed
  * back, listed is less by the blocks dropped, and the mode is 2, or, if no block is left listed, the mode and next are
- * 0. With 0 and the stripe S, none was stale: nothing is stored, and the record handed back is the given one in mode 0.
- * With another number the stripe is the s of the record as it was given, whatever that is.
+ * 0. With 0 and the stripe S, none was stale: nothing is stored, and the record handed back is the given one in mode
+ * 0. With another number the stripe is the s of the record as it was given, whatever that is.
  */
 struct shelf_resynced shelf_resync(struct shelf_record shelf, uint8_t *array, size_t array_len, const uint8_t *log,
                                    size_t log_len, uint8_t *list, size_t list_len);
 
 /* Fills all failed array members.
  *
- * Answers 0, 1, 2, 3, 12 or 14. With 0, every failed data disk holds what shelf_read would give, and the record handed
- * back has no flag of an array member set; the log's flag is as it was. If P or Q had failed, P and Q of every stripe
- * are made, no block is listed and every word of the list is none, and the record has listed 0, next 0 and mode 0. Else
- * the list, listed, next and the mode remain.
+ * Answers 0, 1, 2, 3, 12 or 14. With 0, every data block on a failed member is what shelf_read would give, and the
+ * record handed back has no flag of an array member set; the log's flag is as it was. In each stripe whose P or Q was
+ * on a failed member both are made, and its listed blocks are dropped; listed counts those left. If there was such a
+ * stripe and none is left, next and the mode become 0; else next and the mode remain. Where there was no such stripe,
+ * the list remains too.
  */
 struct shelf_answer shelf_rebuild(struct shelf_record shelf, uint8_t *array, size_t array_len, const uint8_t *log,
                                   size_t log_len, uint8_t *list, size_t list_len);
@@ -441,8 +469,8 @@ struct shelf_answer shelf_rebuild(struct shelf_record shelf, uint8_t *array, siz
 struct shelf_answer shelf_new_log(struct shelf_record shelf, const uint8_t *array, size_t array_len, const uint8_t *log,
                                   size_t log_len, const uint8_t *list, size_t list_len);
 
-/* Makes P and Q of every stripe from the data disks as they stand, whatever the list holds, and empties the list: for a
- * list that was lost, or in place of many resyncs.
+/* Makes P and Q of every stripe from the data blocks as they stand, whatever the list holds, and empties the list: for
+ * a list that was lost, or in place of many resyncs.
  *
  * Answers 0, 1, 2 or 8. With 0, no block is listed and every word of the list is none; the record handed back is the
  * given one with listed 0, next 0 and mode 0.

@@ -58,32 +58,33 @@ static int stripe_calls(void)
  * of the header, then nineteen flags of one byte, and no gap before the last. */
 static int shelf_layout(void)
 {
-    const size_t numbers[9] = {
-        offsetof(struct shelf_record, geometry.d), offsetof(struct shelf_record, geometry.s),
-        offsetof(struct shelf_record, geometry.b), offsetof(struct shelf_record, geometry.l),
-        offsetof(struct shelf_record, geometry.h), offsetof(struct shelf_record, geometry.e),
-        offsetof(struct shelf_record, mode),       offsetof(struct shelf_record, next),
-        offsetof(struct shelf_record, listed),
+    const size_t numbers[10] = {
+        offsetof(struct shelf_record, geometry.d),      offsetof(struct shelf_record, geometry.s),
+        offsetof(struct shelf_record, geometry.b),      offsetof(struct shelf_record, geometry.l),
+        offsetof(struct shelf_record, geometry.h),      offsetof(struct shelf_record, geometry.e),
+        offsetof(struct shelf_record, geometry.layout), offsetof(struct shelf_record, mode),
+        offsetof(struct shelf_record, next),            offsetof(struct shelf_record, listed),
     };
     size_t i;
 
-    for (i = 0; i < 9; i++)
+    for (i = 0; i < 10; i++)
         if (numbers[i] != 8 * i)
             return 11;
-    if (offsetof(struct shelf_record, failed) != 72 || sizeof(bool) != 1)
+    if (offsetof(struct shelf_record, failed) != 80 || sizeof(bool) != 1)
         return 12;
-    if (sizeof(struct shelf_geometry) != 48 || sizeof(struct shelf_record) != 96)
+    if (sizeof(struct shelf_geometry) != 56 || sizeof(struct shelf_record) != 104)
         return 13;
     if (offsetof(struct shelf_answer, code) != 0 || offsetof(struct shelf_answer, shelf) != 8 ||
-        sizeof(struct shelf_answer) != 104)
+        sizeof(struct shelf_answer) != 112)
         return 14;
     if (offsetof(struct shelf_resynced, code) != 0 || offsetof(struct shelf_resynced, stripe) != 8 ||
-        offsetof(struct shelf_resynced, shelf) != 16 || sizeof(struct shelf_resynced) != 112)
+        offsetof(struct shelf_resynced, shelf) != 16 || sizeof(struct shelf_resynced) != 120)
         return 15;
     return 0;
 }
 
-/* The buffers of a shelf of 3 data disks, 2 stripes, blocks of 5 bytes, 4 log records, 2 slots and 4 places. */
+/* The buffers of a shelf of 3 data disks, 2 stripes, blocks of 5 bytes, 4 log records, 2 slots and 4 places. Its parity
+ * is fixed but where another layout is named. */
 static uint8_t array[50], log_bytes[20], list[72];
 
 /* Whether all bytes of a buffer are the same one. */
@@ -97,8 +98,9 @@ static int all(const uint8_t *bytes, size_t count, uint8_t byte)
     return 1;
 }
 
-/* Whether a record has the geometry of that shelf, these numbers and these failed members, bit i for member i. */
-static int is(struct shelf_record shelf, size_t mode, size_t next, size_t listed, uint32_t failed)
+/* Whether a record has the geometry of that shelf in this layout, these numbers and these failed members, bit i for
+ * member i. */
+static int is_of(size_t layout, struct shelf_record shelf, size_t mode, size_t next, size_t listed, uint32_t failed)
 {
     const struct shelf_geometry g = shelf.geometry;
     size_t i;
@@ -106,8 +108,14 @@ static int is(struct shelf_record shelf, size_t mode, size_t next, size_t listed
     for (i = 0; i < SHELF_FLAGS; i++)
         if (shelf.failed[i] != ((failed >> i & 1) != 0))
             return 0;
-    return g.d == 3 && g.s == 2 && g.b == 5 && g.l == 4 && g.h == 2 && g.e == 4 && shelf.mode == mode &&
-           shelf.next == next && shelf.listed == listed;
+    return g.d == 3 && g.s == 2 && g.b == 5 && g.l == 4 && g.h == 2 && g.e == 4 && g.layout == layout &&
+           shelf.mode == mode && shelf.next == next && shelf.listed == listed;
+}
+
+/* The same in the fixed layout. */
+static int is(struct shelf_record shelf, size_t mode, size_t next, size_t listed, uint32_t failed)
+{
+    return is_of(0, shelf, mode, next, listed, failed);
 }
 
 /* Makes a call on that shelf that only looks at the buffers. */
@@ -223,7 +231,7 @@ static int shelf_listed(struct shelf_record shelf)
 /* Formats a shelf, starts it, has members fail, and has each number answered once. */
 static int shelf_calls(void)
 {
-    struct shelf_record shelf = {{3, 2, 5, 4, 2, 4}, 9, 9, 9, {true, true, true}};
+    struct shelf_record shelf = {{3, 2, 5, 4, 2, 4, 0}, 9, 9, 9, {true, true, true}};
     struct shelf_answer answer;
 
     memset(array, 77, sizeof array);
@@ -341,7 +349,7 @@ static int blocks_resynced(struct shelf_record shelf)
 /* Formats and starts a shelf, and goes through the calls that serve blocks and bring parity up to date. */
 static int shelf_blocks(void)
 {
-    const struct shelf_record fresh = {{3, 2, 5, 4, 2, 4}, 0, 0, 0, {false}};
+    const struct shelf_record fresh = {{3, 2, 5, 4, 2, 4, 0}, 0, 0, 0, {false}};
     const struct shelf_record started = on(shelf_start, format(fresh).shelf).shelf;
     struct shelf_record logged = started;
     int fault = blocks_logged(started);
@@ -351,6 +359,41 @@ static int shelf_blocks(void)
     logged.next = 2;
     logged.listed = 1;
     return blocks_resynced(logged);
+}
+
+/* On that shelf where parity rotates. Stripe 0 has P on member 4, Q on member 0 and its data on members 1 to 3; stripe
+ * 1 has its data on members 0 to 2, P on 3 and Q on 4. Blocks 0 to 3 are written as 1, 2, 3 and 5; then block 1 is
+ * logged as 7 and block 4 as 6. Member 4 fails and is rebuilt: it had parity of either stripe, and nothing remains
+ * listed. */
+static int shelf_rotates(void)
+{
+    const struct shelf_record fresh = {{3, 2, 5, 4, 2, 4, 1}, 0, 0, 0, {false}};
+    const uint8_t four[20] = {1, 1, 1, 1, 1, 2, 2, 2, 2, 2, 3, 3, 3, 3, 3, 5, 5, 5, 5, 5};
+    const uint8_t sevens[5] = {7, 7, 7, 7, 7}, sixes[5] = {6, 6, 6, 6, 6};
+    struct shelf_answer answer = write_blocks(format(fresh).shelf, 0, 4, four, sizeof four);
+
+    if (answer.code != SHELF_OK || !is_of(1, answer.shelf, SHELF_NORMAL, 0, 0, 0))
+        return 61;
+    if (!block_is(1, 0, 1) || !block_is(2, 0, 2) || !block_is(3, 0, 3) || !block_is(4, 0, 0) || !block_is(0, 0, 9))
+        return 62;
+    if (!block_is(0, 1, 5) || !block_is(1, 1, 0) || !block_is(2, 1, 0) || !block_is(3, 1, 5) || !block_is(4, 1, 5))
+        return 63;
+    answer = write_blocks(on(shelf_start, answer.shelf).shelf, 1, 1, sevens, sizeof sevens);
+    answer = write_blocks(answer.shelf, 4, 1, sixes, sizeof sixes);
+    if (answer.code != SHELF_OK || !is_of(1, answer.shelf, SHELF_ACCELERATING, 4, 2, 0) || !block_is(2, 0, 7) ||
+        !block_is(1, 1, 6))
+        return 64;
+    answer = member_of(shelf_fail, answer.shelf, 4);
+    memset(array + 40, 55, 10);
+    answer = mended(shelf_rebuild, answer.shelf);
+    if (answer.code != SHELF_OK || !is_of(1, answer.shelf, SHELF_NORMAL, 0, 0, 0) || !all(list, sizeof list, 255))
+        return 65;
+    if (!block_is(4, 0, 5) || !block_is(0, 0, 3) || !block_is(3, 1, 3) || !block_is(4, 1, 9))
+        return 66;
+    answer.shelf.geometry.layout = 2;
+    if (format(answer.shelf).code != SHELF_BAD_RECORD || on(shelf_start, answer.shelf).code != SHELF_BAD_RECORD)
+        return 67;
+    return 0;
 }
 
 /* Goes through both headers. */
@@ -364,5 +407,7 @@ int main(void)
         fault = shelf_calls();
     if (fault == 0)
         fault = shelf_blocks();
+    if (fault == 0)
+        fault = shelf_rotates();
     return fault;
 }

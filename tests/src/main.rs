@@ -27,7 +27,7 @@ pub type Outcome = Result<String, String>;
 type Group = fn(u64) -> Outcome;
 
 /// The groups in the order in which they run.
-const GROUPS: [(&str, Group); 17] = [
+const GROUPS: [(&str, Group); 19] = [
     ("field", field::group),
     ("products", products::group),
     ("examples", examples::group),
@@ -38,6 +38,8 @@ const GROUPS: [(&str, Group); 17] = [
     ("printed session", shelf::printed::group),
     ("marked examples", shelf::marked::group),
     ("list order", shelf::order::group),
+    ("rotating rows", shelf::rows::group),
+    ("rotating rebuilds", shelf::rotation::group),
     ("sessions", shelf::sessions::group),
     ("tiny shelves", shelf::tiny::group),
     ("random shelves", shelf::random::group),

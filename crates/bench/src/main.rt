@@ -76,12 +76,20 @@ fn read_head(chunk: &mut [u8], line: &mut [u8]) -> Head
     }
 }
 
-// The geometry that a line of measures says; zeros, which no shelf has, where it can't be read.
+// The geometry that a line of measures says, in the fixed layout; zeros, which no shelf has, where it can't be read.
 fn geometry_of(line: &[u8]) -> Geometry
     ensures { λ g. ⌜ g ≡ geometryOf (measuresLine (now (line .entry))) ⌝ }
 {
     match lines::measures::read_measures(line) {
-        Measures::Six(d, s, b, l, h, e) => Geometry { d, s, b, l, h, e },
+        Measures::Six(d, s, b, l, h, e) => Geometry {
+            d,
+            s,
+            b,
+            l,
+            h,
+            e,
+            layout: 0,
+        },
         Measures::Unreadable => Geometry {
             d: 0,
             s: 0,
@@ -89,6 +97,7 @@ fn geometry_of(line: &[u8]) -> Geometry
             l: 0,
             h: 0,
             e: 0,
+            layout: 0,
         },
     }
 }

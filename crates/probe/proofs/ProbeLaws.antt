@@ -57,10 +57,10 @@ module _ (d s b n : ℕ) where
       let ok = shape-ok d s b (one .0) in
       (ok .0, (ok .1 .0, (ok .1 .1 .1 .0, (ok .1 .1 .1 .1 .0, (ok .1 .1 .1 .1 .1, eqb-true n ((d + 2) * s * b) (not-false (eqb n ((d + 2) * s * b)) (two .0)))))))
 
-pub all-done : (d s b code : ℕ) (l n : List ℕ) → code ≡ allCode d s b (length l) → code ≡ 0 → n ≡ parityMadeAll s (place d s) d b l → n ≡ allBuffer d s b l
+pub all-done : (d s b code : ℕ) (l n : List ℕ) → code ≡ allCode d s b (length l) → code ≡ 0 → n ≡ parityMadeAll s (place 0 d s) d b l → n ≡ allBuffer d s b l
 unfolding allBuffer
-all-done d s b code l n e z en = en ∙ sym (accepted-done (allCode d s b (length l)) (parityMadeAll s (place d s) d b l) l (sym e ∙ z))
+all-done d s b code l n e z en = en ∙ sym (accepted-done (allCode d s b (length l)) (parityMadeAll s (place 0 d s) d b l) l (sym e ∙ z))
 
 pub all-kept : (d s b code : ℕ) (l : List ℕ) → code ≡ allCode d s b (length l) → (code ≡ 0 → ⊥) → l ≡ allBuffer d s b l
 unfolding allBuffer
-all-kept d s b code l e ne = sym (accepted-kept (allCode d s b (length l)) (parityMadeAll s (place d s) d b l) l (λ z. ne (e ∙ z)))
+all-kept d s b code l e ne = sym (accepted-kept (allCode d s b (length l)) (parityMadeAll s (place 0 d s) d b l) l (λ z. ne (e ∙ z)))

@@ -17,4 +17,4 @@ unfoldable pub allCode : ℕ → ℕ → ℕ → ℕ → ℕ
 allCode d s b n = pick (badShape d s b) 1 (pick (not (eqb n ((d + 2) * s * b))) 2 0)
 
 unfoldable pub allBuffer : ℕ → ℕ → ℕ → List ℕ → List ℕ
-allBuffer d s b l = accepted (allCode d s b (length l)) (parityMadeAll s (place d s) d b l) l
+allBuffer d s b l = accepted (allCode d s b (length l)) (parityMadeAll s (place 0 d s) d b l) l

@@ -23,7 +23,7 @@ pub extern "C" fn probe_make_parity_all(d: u32, s: u32, b: u32, array: &mut [u8]
 {
     let code = all_code(d, s, b, array.len());
     if code == 0 {
-        stripe::parity::make_all_parity(array, d as usize, s as usize, b as usize);
+        stripe::parity::make_all_parity(array, 0, d as usize, s as usize, b as usize);
     }
     code
 }

@@ -10,7 +10,7 @@ use Rattle.shelf.specs.Counting.{choose, count, any, lesser, setAt}
 use Rattle.shelf.specs.Members.{logMember, blank}
 use Rattle.shelf.specs.State.{marksIn, lowestStale}
 use Rattle.shelf.specs.Status.{Call, start, fail, write, read, resync, rebuild, newLog, fullResync, codeOf}
-use Rattle.shelf.specs.Calls.{nextLeft, modeLeft, unlistedWritten, unlistedOthers, written, given, parityFailed, arrayCleared}
+use Rattle.shelf.specs.Calls.{nextLeft, modeLeft, unlistedWritten, unlistedOthers, written, given, parityFailed, arrayCleared, modeRebuilt}
 use Rattle.shelf.specs.declared.record.Geometry.{Geometry}
 
 -- the marked addresses, by stripe and data index, u (the log records used) and the mode
@@ -28,7 +28,7 @@ pub record Book : Type 0 where
 unfoldable pub freshBook : Geometry → Book
 freshBook g = record { held = λ _ _. blank g; failed = λ _. false; state = record { marks = λ _ _. false; used = 0; mode = 0 } }
 
--- Whenever no mark is left, u and mode 2 become 0. Start, read, new log, a write that marks and a rebuild that keeps the marks leave nothing to close.
+-- Whenever no mark is left, u and mode 2 become 0. Start, read, new log and a write that marks leave nothing to close.
 unfoldable pub closed : Geometry → Marks → Marks
 closed g m =
     record { marks = m .marks; used = nextLeft (marksIn g (m .marks)) (m .used); mode = modeLeft (marksIn g (m .marks)) (m .mode) }
@@ -98,11 +98,12 @@ bookWork g resync b =
           });
     }
 bookWork g rebuild b =
+    let lost = parityFailed g (b .failed) in
+    let left : ℕ → ℕ → Bool = λ x i. choose (parityFailed g (b .failed) x) false (b .state .marks x i) in
     record {
       held = b .held;
       failed = arrayCleared g (b .failed);
-      state =
-          choose (parityFailed g (b .failed)) (closed g (record { marks = λ _ _. false; used = b .state .used; mode = 0 })) (b .state);
+      state = closed g (record { marks = left; used = b .state .used; mode = modeRebuilt (any (g .s) lost) (marksIn g left) (b .state .mode) });
     }
 bookWork g newLog b = record { held = b .held; failed = setAt (logMember g) false (b .failed); state = b .state }
 bookWork g fullResync b =

@@ -33,7 +33,7 @@ abbrev pub withNext : Log → ℕ → Log
 withNext n r = record { value = n .value; next = r; ori = n .ori; cur = n .cur }
 
 -- Whenever the last listed block is dropped, the next free record becomes 0, so log records are used again, and mode 2 becomes 0. Where nothing was
--- listed before, row 1 has seen to both already. Mode 1 remains mode 1.
+-- listed before, row 1 has seen to both already. Here mode 1 remains mode 1.
 unfoldable pub settled : Geometry → State → State
 settled g s =
     record {
@@ -45,21 +45,26 @@ settled g s =
       failed = s .failed;
     }
 
--- the list without the blocks of stripe t; the log's values stay
-abbrev pub dropped : Log → ℕ → Log
-dropped n t = record { value = n .value; next = n .next; ori = setAt t (λ _. none) (n .ori); cur = setAt t (λ _. none) (n .cur) }
+-- the list without the blocks of the stripes that pass the test; the log's values stay
+abbrev pub dropped : Log → (ℕ → Bool) → Log
+dropped n t =
+    record { value = n .value; next = n .next; ori = λ x i. choose (t x) none (n .ori x i); cur = λ x i. choose (t x) none (n .cur x i) }
 
--- Stripe t with these data blocks: P and Q are made afresh, its listed blocks are dropped, and the rest is settled.
-unfoldable pub made : Geometry → State → ℕ → (ℕ → List ℕ) → State
-made g s t row =
-    settled g (record {
-      disk = setAt t row (s .disk);
-      p = setAt t (blockP g row) (s .p);
-      q = setAt t (blockQ g row) (s .q);
+-- P and Q made afresh in the stripes that pass the test, of these data blocks, and their listed blocks dropped; the rest as it was
+abbrev pub afresh : Geometry → State → (ℕ → Bool) → (ℕ → ℕ → List ℕ) → State
+afresh g s t disk =
+    record {
+      disk = disk;
+      p = λ x. choose (t x) (blockP g (disk x)) (s .p x);
+      q = λ x. choose (t x) (blockQ g (disk x)) (s .q x);
       log = dropped (s .log) t;
       mode = s .mode;
       failed = s .failed;
-    })
+    }
+
+-- Stripe t with these data blocks: P and Q are made afresh, its listed blocks are dropped, and the rest is settled.
+unfoldable pub made : Geometry → State → ℕ → (ℕ → List ℕ) → State
+made g s t row = settled g (afresh g s (λ x. eqb x t) (setAt t row (s .disk)))
 
 -- the list empty and every log record free; the log's values stay
 abbrev pub emptied : Log → Log
@@ -211,19 +216,25 @@ resynced g s =
 
 -- ---- rebuild
 
--- P or Q had failed: the member that has it in a stripe (in this layout the same for all stripes)
-abbrev pub parityFailed : Geometry → (ℕ → Bool) → Bool
-parityFailed g f = any (g .s) (λ x. f (memberAt g x (roleP g)) || f (memberAt g x (roleQ g)))
+-- P or Q of stripe x is on a failed member
+abbrev pub parityFailed : Geometry → (ℕ → Bool) → ℕ → Bool
+parityFailed g f x = f (memberAt g x (roleP g)) || f (memberAt g x (roleQ g))
 
 abbrev pub arrayCleared : Geometry → (ℕ → Bool) → ℕ → Bool
 arrayCleared g f i = choose (ltb i (arrayMembers g)) false (f i)
 
--- Every failed data disk is filled with what read would give; a sound one is read as it is. If P or Q had failed, both are made afresh for every
--- stripe, the whole list is dropped and the mode becomes 0; otherwise list and mode remain. All array flags clear.
+-- if P and Q were made in a stripe and the list ends empty, mode 0, else the mode as it was
+abbrev pub modeRebuilt : Bool → ℕ → ℕ → ℕ
+modeRebuilt made marks mode = choose (made && eqb marks 0) 0 mode
+
+-- Every data block on a failed member is filled with what read would give; one on a sound member is read as it is. In the stripes whose P or Q was on
+-- a failed member, and only there, both are made afresh and the listed blocks are dropped. If there was such a stripe and the list ends empty, the mode
+-- becomes 0, else it remains. All array flags clear.
 unfoldable pub rebuilt : Geometry → State → State
 rebuilt g s =
-    choose (parityFailed g (s .failed)) (remade g s (blockAt g s) (arrayCleared g (s .failed)))
-    (record { disk = blockAt g s; p = s .p; q = s .q; log = s .log; mode = s .mode; failed = arrayCleared g (s .failed) })
+    let lost = parityFailed g (s .failed) in
+    let filled = afresh g s lost (blockAt g s) in
+    settled g (withFlags (inMode filled (modeRebuilt (any (g .s) lost) (marksIn g (listed (filled .log))) (s .mode))) (arrayCleared g (s .failed)))
 
 -- ---- the calls
 

@@ -1,5 +1,5 @@
 -- The members of a shelf, its block addresses and its blocks. The letters are those of the geometry: d data disks, s stripes, blocks of b bytes,
--- a log of l records, a list of h hash slots and e places.
+-- a log of l records, a list of h hash slots and e places; and the layout, 0 fixed or 1 rotating.
 -- Assumes nothing.
 use mathlib.Core.Bool.{Bool, not, _&&_}
 use mathlib.Core.List.{List}
@@ -9,7 +9,7 @@ use lib.Dec.{eqb, ltb}
 use lib.ListN.{length, getD}
 use Rattle.stripe.specs.Blocks.{gen}
 use Rattle.stripe.specs.Parity.{parityP, parityQ, solved}
-use Rattle.stripe.specs.Places.{memberOf}
+use Rattle.stripe.specs.Places.{memberOf, place}
 use Rattle.stripe.specs.Sound.{AreBytes}
 use Rattle.shelf.specs.Counting.{choose, first}
 use Rattle.shelf.specs.declared.record.Geometry.{Geometry}
@@ -28,8 +28,10 @@ pub record InRange (g : Geometry) : Type 0 where
   pub h-most : g .h ≤ 256
   pub e-least : 1 ≤ g .e
   pub e-most : g .e ≤ 4096
+  pub layout-most : g .layout ≤ 1
 
--- Members are numbered: data disks from 0, then P, Q and the log. The array holds all but the log.
+-- Members are numbered from 0: those of the array, then the log. In the fixed layout the array's are the data disks, then P and Q; in the rotating
+-- one each of them has another role from stripe to stripe.
 abbrev pub arrayMembers : Geometry → ℕ
 arrayMembers g = g .d + 2
 
@@ -46,9 +48,12 @@ roleP g = g .d
 abbrev pub roleQ : Geometry → ℕ
 roleQ g = g .d + 1
 
--- the member that has a role in stripe x: the layout
+-- the member that has role i in stripe x, by the layout; and the number of its block in the array
 abbrev pub memberAt : Geometry → ℕ → ℕ → ℕ
-memberAt g x i = memberOf (g .d) x i
+memberAt g x i = memberOf (g .layout) (g .d) x i
+
+abbrev pub placeAt : Geometry → ℕ → ℕ → ℕ
+placeAt g x i = place (g .layout) (g .d) (g .s) x i
 
 -- Block addresses run below d * s. Address a sits in stripe a / d, rounded down, at data index a mod d; and data index i of stripe x has address
 -- x * d + i.

@@ -1,28 +1,29 @@
 -- Words for the contracts of the functions that a rebuild is made of: what they ask of what is lent; the array with blocks filled as a read gives
 -- them, one after another and stripe after stripe, and the record and the list after it.
 -- Assumes nothing.
-use mathlib.Core.Bool.{Bool, true, _||_}
+use mathlib.Core.Bool.{Bool, true}
 use mathlib.Core.List.{List}
 use mathlib.Core.Path.{_≡_}
 use Prim.Native.Nat.{ℕ, zero, suc, _≤_, _<_}
 use lib.Dec.{ltb}
-use lib.ListN.{length, replicate}
 use Rattle.stripe.specs.Blocks.{put}
-use Rattle.stripe.specs.Places.{place, parityMade}
+use Rattle.stripe.specs.Places.{parityMade}
 use Rattle.shelf.specs.Counting.{choose, count, any}
-use Rattle.shelf.specs.Members.{arrayMembers, roleP, roleQ, memberAt, addressOf}
+use Rattle.shelf.specs.Members.{arrayMembers, memberAt, placeAt, addressOf}
 use Rattle.shelf.specs.Status.{withheld}
+use Rattle.shelf.specs.Calls.{parityFailed, modeRebuilt}
 use Rattle.shelf.specs.Words.{words}
-use Rattle.shelf.specs.HashList.{noneWord}
+use Rattle.shelf.specs.HashList.{noneWord, Entry, entries}
 use Rattle.shelf.specs.Lent.{Lent, lent, flagAt, listedBy, arrayBlock}
+use Rattle.shelf.specs.Rewriting.{dropStripes}
 use Rattle.shelf.specs.Records.{withMode, withListed, withCleared}
 use Rattle.shelf.specs.Reading.{Ready, latest, servedBlock}
 use Rattle.shelf.specs.declared.record.Shelf.{Shelf}
 
--- ---- of one stripe: P or Q has failed; a data disk has; row 14 applies to a data block
+-- ---- of one stripe: P or Q is on a failed member; a data block is; row 14 applies to a data block
 
 abbrev pub parityFailedAt : Shelf → ℕ → Bool
-parityFailedAt r x = flagAt r (memberAt (r .geometry) x (roleP (r .geometry))) || flagAt r (memberAt (r .geometry) x (roleQ (r .geometry)))
+parityFailedAt r x = parityFailed (r .geometry) (flagAt r) x
 
 abbrev pub dataFailedAt : Shelf → ℕ → Bool
 dataFailedAt r x = any (r .geometry .d) (λ i. flagAt r (memberAt (r .geometry) x i))
@@ -37,11 +38,11 @@ pub record Rebuildable (h : Lent) : Type 0 where
   pub ready : Ready h
   pub two : count (arrayMembers (h .shelf .geometry)) (flagAt (h .shelf)) ≤ 2
 
--- the block of data index i of stripe x is on a failed disk and not in the log
+-- the block of data index i of stripe x is on a failed member and not in the log
 abbrev pub Lost : Shelf → List ℕ → ℕ → ℕ → Type 0
 Lost r l x i = (flagAt r (memberAt (r .geometry) x i) ≡ true) × (latest (words l) (r .geometry) (addressOf (r .geometry) x i) ≡ noneWord)
 
--- the data blocks of stripe x below i that are on failed disks are filled
+-- the data blocks of stripe x below i that are on failed members are filled
 abbrev pub FilledBelow : Lent → ℕ → ℕ → Type 0
 FilledBelow h x i =
     (k : ℕ) → k < i → flagAt (h .shelf) (memberAt (h .shelf .geometry) x k) ≡ true → arrayBlock (h .shelf .geometry) (h .array) x k ≡ servedBlock h x k
@@ -58,30 +59,30 @@ withArray h a = lent (h .shelf) a (h .log) (h .list)
 
 -- with the block of data index i of stripe x as a read gives it
 unfoldable pub filledAt : Lent → ℕ → ℕ → List ℕ
-filledAt h x i = put (h .shelf .geometry .b) (place (h .shelf .geometry .d) (h .shelf .geometry .s) x i) (servedBlock h x i) (h .array)
+filledAt h x i = put (h .shelf .geometry .b) (placeAt (h .shelf .geometry) x i) (servedBlock h x i) (h .array)
 
 -- with the first c data blocks of stripe x filled so, in rising data index
 unfoldable pub filledTo : Lent → ℕ → ℕ → List ℕ
 filledTo h x zero = h .array
 filledTo h x (suc c) = filledAt (withArray h (filledTo h x c)) x c
 
--- stripe x rebuilt: its data blocks filled, then P and Q made of them where parity had failed
-unfoldable pub stripeRebuilt : Lent → Bool → ℕ → List ℕ
-stripeRebuilt h parity x =
+-- stripe x rebuilt: its data blocks filled, then P and Q made of them where one of these was on a failed member
+unfoldable pub stripeRebuilt : Lent → ℕ → List ℕ
+stripeRebuilt h x =
     let a = filledTo h x (h .shelf .geometry .d) in
-    choose parity (parityMade (place (h .shelf .geometry .d) (h .shelf .geometry .s) x) (h .shelf .geometry .d) (h .shelf .geometry .b) a) a
+    choose (parityFailedAt (h .shelf) x) (parityMade (placeAt (h .shelf .geometry) x) (h .shelf .geometry .d) (h .shelf .geometry .b) a) a
 
 -- the first n stripes rebuilt, in rising order
-unfoldable pub rebuiltTo : Lent → Bool → ℕ → List ℕ
-rebuiltTo h parity zero = h .array
-rebuiltTo h parity (suc n) = stripeRebuilt (withArray h (rebuiltTo h parity n)) parity n
+unfoldable pub rebuiltTo : Lent → ℕ → List ℕ
+rebuiltTo h zero = h .array
+rebuiltTo h (suc n) = stripeRebuilt (withArray h (rebuiltTo h n)) n
 
 -- ---- the record and the list
 
--- the record with the array's flags cleared and, where parity had failed, nothing listed, next 0 and mode 0
-abbrev pub rebuiltRecord : Shelf → Bool → Shelf
-rebuiltRecord r parity = choose parity (withListed (withMode (withCleared r) 0) 0) (withCleared r)
+-- the record with the array's flags cleared and n blocks left listed; made tells whether P and Q were made in a stripe
+abbrev pub rebuiltRecord : Shelf → Bool → ℕ → Shelf
+rebuiltRecord r made n = withListed (withMode (withCleared r) (modeRebuilt made n (r .mode))) n
 
--- the list, every word none where parity had failed
-abbrev pub rebuiltList : Bool → List ℕ → List ℕ
-rebuiltList parity l = choose parity (replicate (length l) 255) l
+-- the entries of the stripes that kept their parity
+abbrev pub keptEntries : Shelf → List ℕ → List Entry
+keptEntries r l = dropStripes (r .geometry .d) (parityFailedAt r) (entries (words l) (r .geometry))

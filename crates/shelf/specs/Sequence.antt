@@ -65,8 +65,8 @@ pub data Resyncs (g : Geometry) : ℕ → Lent → Lent → Type 0 where
 
 -- ---- the claim
 
--- No block that an accepted read hands over, and no block of a data disk that an accepted rebuild filled, differs from the last block written there:
--- the count of those that differ is nought.
+-- No block that an accepted read hands over, and no data block on a failed member that an accepted rebuild filled, differs from the last block written
+-- there: the count of those that differ is nought.
 abbrev pub Exact : Geometry → Call → Lent → Lent → List ℕ → Book → Type 0
 Exact g start h h' out b = Unit {0}
 Exact g (fail j) h h' out b = Unit {0}

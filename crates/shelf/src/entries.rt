@@ -6,7 +6,8 @@ ghost use Prim.Native.Nat.{_+_, _*_, _≤_, _<_};
 ghost use lib.ListN.{length, set, take};
 ghost use Rattle.shelf.specs.Words.{words};
 ghost use Rattle.shelf.specs.HashList.{Measures, entry, entryIn, putFront, encode};
-ghost use Rattle.shelf.specs.Rewriting.{dropStripe, held, placed, KeptFrom, NoneBehind, Opened, Filled};
+ghost use Rattle.shelf.specs.Rebuilding.{parityFailedAt};
+ghost use Rattle.shelf.specs.Rewriting.{dropStripes, dropStripe, held, placed, KeptFrom, NoneBehind, Opened, Filled};
 
 // Puts an entry as entry i of a slice of e entries.
 pub fn put_entry(x: &mut [u32], e: usize, i: usize, a: usize, o: usize, c: usize)
@@ -53,6 +54,29 @@ pub fn close_up(l: &mut [u8], g: record::Geometry, k: usize, n: usize) -> usize
     while p < n {
         let a = words::word(l, h + 4 * p);
         if a / d != k {
+            move_place(l, h, e, p, m);
+            m += 1;
+        }
+        p += 1;
+    }
+    m
+}
+
+// Closes the entries of the first n places up over those of the stripes whose P or Q is on a failed member. Answers how many are left,
+// in the places from 0 on. The words behind the n places are left.
+pub fn close_up_lost(l: &mut [u8], shelf: record::Shelf, n: usize) -> usize
+    requires { ⌜ Measures (shelf .geometry) (now l) × (n ≤ shelf .geometry .e) ⌝ }
+    ensures { λ r. ⌜ (r ≤ n) × ((take r (placed (shelf .geometry .e) (words (now (l .exit))) (shelf .geometry .h) 0) ≡ dropStripes (shelf .geometry .d) (parityFailedAt shelf) (take n (placed (shelf .geometry .e) (words (now (l .entry))) (shelf .geometry .h) 0))) × KeptFrom (shelf .geometry .h + 4 * n) (words (now (l .entry))) (words (now (l .exit)))) ⌝ }
+{
+    let g = shelf.geometry;
+    let d = g.d;
+    let h = g.h;
+    let e = g.e;
+    let mut m: usize = 0;
+    let mut p: usize = 0;
+    while p < n {
+        let a = words::word(l, h + 4 * p);
+        if !shelf.parity_failed(a / d) {
             move_place(l, h, e, p, m);
             m += 1;
         }

@@ -236,9 +236,9 @@ pub extern "C" fn shelf_resync(
     }
 }
 
-// Fills every failed data disk with what a read gives and clears the array's flags. If P or Q had failed, both are made afresh for every
-// stripe, every word of the list is none and the mode is 0. Answers 0; or the first of 1, 2, 3, 12, 14 that applies, and then stores
-// nothing.
+// Fills every data block on a failed member with what a read gives and clears the array's flags. In the stripes whose P or Q was on a
+// failed member both are made afresh and the listed blocks are dropped; if there was such a stripe and no block is left listed, the mode
+// is 0. Answers 0; or the first of 1, 2, 3, 12, 14 that applies, and then stores nothing.
 #[no_mangle]
 pub extern "C" fn shelf_rebuild(
     shelf: record::Shelf,
@@ -252,11 +252,10 @@ pub extern "C" fn shelf_rebuild(
     if code != 0 {
         return Answer { code, shelf };
     }
-    let parity = rebuild::parity_failed(shelf);
-    rebuild::rebuild_array(shelf, parity, array, log, list);
+    let made = rebuild::rebuild_array(shelf, array, log, list);
     Answer {
         code: 0,
-        shelf: rebuild::settle(shelf, parity, list),
+        shelf: rebuild::settle(shelf, made, list),
     }
 }
 
@@ -276,7 +275,7 @@ pub extern "C" fn shelf_full_resync(
     if code != 0 {
         return Answer { code, shelf };
     }
-    stripe::parity::make_all_parity(array, g.d, g.s, g.b);
+    stripe::parity::make_all_parity(array, g.layout, g.d, g.s, g.b);
     fill(list, 255);
     let entered = shelf.in_mode(0);
     Answer {

@@ -74,7 +74,7 @@ fn log_pre_read(g: record::Geometry, t: usize, plan: plan::Plan, array: &[u8], l
     requires { ⌜ InRange g × ((t < g .s) × ((length (now array) ≡ arrayLength g) × Within (g .d) (tested (plan .pre)) (numbered (plan .ori)) (g .b) (length (now log)))) ⌝ }
     ensures { λ _. ⌜ now (log .exit) ≡ preLogged g t plan (now (array .entry)) (now (log .entry)) ⌝ }
 {
-    let at = stripe::places::block_numbers(g.d, g.s, t);
+    let at = stripe::places::block_numbers(g.layout, g.d, g.s, t);
     let pre = plan.pre;
     let ori = plan.ori;
     copies::copy_picked(array, &at, log, &ori, &pre, g.d, g.b);
@@ -108,7 +108,7 @@ pub fn store_new(
     requires { ⌜ Storable g t share (length (now source)) (length (now array)) ⌝ }
     ensures { λ _. ⌜ now (array .exit) ≡ newStored g t share (now (source .entry)) (now (array .entry)) ⌝ }
 {
-    let at = stripe::places::block_numbers(g.d, g.s, t);
+    let at = stripe::places::block_numbers(g.layout, g.d, g.s, t);
     let new = share.new;
     let from = share.from;
     copies::copy_picked(source, &from, array, &at, &new, g.d, g.b);

@@ -2,14 +2,16 @@
 // it by value and hands the new one back; the methods here make the new one.
 ghost use mathlib.Core.Path.{_≡_};
 ghost use Prim.Native.Nat.{_≤_, _<_};
-ghost use Rattle.shelf.specs.Counting.{count, any};
+ghost use Rattle.shelf.specs.Counting.{count, any, Tests};
 ghost use Rattle.shelf.specs.Members.{arrayMembers, logMember, allMembers};
 ghost use Rattle.shelf.specs.Status.{arrayFailed, logFailed};
+ghost use Rattle.shelf.specs.Calls.{parityFailed};
 ghost use Rattle.shelf.specs.Lent.{flagAt, flagFrom};
-ghost use Rattle.shelf.specs.Records.{withMode, withFailed, withRenewed, withListed, withLogged, withCleared};
+ghost use Rattle.shelf.specs.Records.{failedRole, withMode, withFailed, withRenewed, withListed, withLogged, withCleared};
 
 // The measures of a shelf, by the customer's letters: d data disks (2 to 16), s stripes (1 to 65,536), blocks of b bytes
-// (1 to 4,096), a log of l records (1 to 65,536), a list of h hash slots (1 to 256) and e places (1 to 4,096).
+// (1 to 4,096), a log of l records (1 to 65,536), a list of h hash slots (1 to 256) and e places (1 to 4,096); and the layout
+// (0 fixed, 1 rotating).
 #[repr(C)]
 pub struct Geometry {
     pub d: usize,
@@ -18,6 +20,7 @@ pub struct Geometry {
     pub l: usize,
     pub h: usize,
     pub e: usize,
+    pub layout: usize,
 }
 
 // The record: the mode (0 normal, 1 accelerating, 2 transitional), the next free log record, the count of listed blocks, and one
@@ -117,6 +120,45 @@ impl Shelf {
     {
         let g = self.geometry;
         self.has_failed(g.log_member())
+    }
+
+    // Whether the member that has role i in stripe x has failed.
+    pub fn role_failed(self, x: usize, i: usize) -> bool
+        requires { ⌜ (self .geometry .d ≤ 16) × (i < arrayMembers (self .geometry)) ⌝ }
+        ensures { λ r. ⌜ r ≡ failedRole self x i ⌝ }
+    {
+        let g = self.geometry;
+        self.has_failed(stripe::places::member(g.layout, g.d, x, i))
+    }
+
+    // Whether P or Q of stripe x is on a failed member.
+    pub fn parity_failed(self, x: usize) -> bool
+        requires { ⌜ self .geometry .d ≤ 16 ⌝ }
+        ensures { λ r. ⌜ r ≡ parityFailed (self .geometry) (flagAt self) x ⌝ }
+    {
+        let d = self.geometry.d;
+        if self.role_failed(x, d) {
+            return true;
+        }
+        self.role_failed(x, d + 1)
+    }
+
+    // Which roles of stripe x are on failed members, a test for each.
+    pub fn failed_roles(self, x: usize) -> [bool; 18]
+        requires { ⌜ self .geometry .d ≤ 16 ⌝ }
+        ensures { λ r. ⌜ Tests (arrayMembers (self .geometry)) (failedRole self x) r ⌝ }
+    {
+        let g = self.geometry;
+        let failed = self.failed;
+        let members = stripe::places::members(g.layout, g.d, x);
+        let roles = g.array_members();
+        let mut lost = [false; 18];
+        let mut i: usize = 0;
+        while i < roles {
+            lost[i] = failed[members[i]];
+            i += 1;
+        }
+        lost
     }
 
     // The record in another mode.

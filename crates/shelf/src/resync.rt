@@ -4,8 +4,8 @@ use super::record;
 ghost use mathlib.Core.Path.{_≡_};
 ghost use Prim.Native.Nat.{_<_};
 ghost use lib.ListN.{length};
-ghost use Rattle.stripe.specs.Places.{place, parityMade};
-ghost use Rattle.shelf.specs.Members.{InRange};
+ghost use Rattle.stripe.specs.Places.{parityMade};
+ghost use Rattle.shelf.specs.Members.{InRange, placeAt};
 ghost use Rattle.shelf.specs.Lent.{arrayLength};
 ghost use Rattle.shelf.specs.Words.{words};
 ghost use Rattle.shelf.specs.HashList.{Measures, Lists, entries};
@@ -21,8 +21,8 @@ pub fn make_stripe(
     n: usize,
 ) -> usize
     requires { ⌜ InRange g × ((t < g .s) × ((length (now array) ≡ arrayLength g) × (Measures g (now list) × Lists (words (now list)) g n))) ⌝ }
-    ensures { λ r. ⌜ (now (array .exit) ≡ parityMade (place (g .d) (g .s) t) (g .d) (g .b) (now (array .entry))) × Rewritten g (dropStripe (g .d) t (entries (words (now (list .entry))) g)) (now (list .exit)) r ⌝ }
+    ensures { λ r. ⌜ (now (array .exit) ≡ parityMade (placeAt g t) (g .d) (g .b) (now (array .entry))) × Rewritten g (dropStripe (g .d) t (entries (words (now (list .entry))) g)) (now (list .exit)) r ⌝ }
 {
-    stripe::parity::make_parity(array, g.d, g.s, t, g.b);
+    stripe::parity::make_parity(array, g.layout, g.d, g.s, t, g.b);
     alter::drop_stripe(list, g, t, n)
 }

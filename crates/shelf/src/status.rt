@@ -8,7 +8,7 @@ ghost use mathlib.Core.Bool.{_&&_, _||_, true};
 ghost use mathlib.Core.Path.{_≡_};
 ghost use Prim.Native.Nat.{_+_, _*_, _≤_, _<_};
 ghost use Rattle.shelf.specs.Members.{InRange};
-ghost use Rattle.shelf.specs.Status.{codeOf, start, fail, write, read, resync, rebuild, newLog, fullResync, row, logFailed, logSound, badAddress, readWithheld, dataWithheld, withheld};
+ghost use Rattle.shelf.specs.Status.{codeOf, start, fail, write, read, resync, rebuild, newLog, fullResync, row, logFailed, badAddress, readWithheld, dataWithheld, withheld};
 ghost use Rattle.shelf.specs.Lent.{flagAt, listedBy, outside, badMeasures, badRecord, badLengths, inputRows, numberOf, formatCode};
 ghost use Rattle.shelf.specs.Records.{unmarked, newLogRows};
 ghost use Rattle.shelf.specs.Reading.{ListReady};
@@ -264,7 +264,7 @@ fn withheld(shelf: record::Shelf, x: usize, i: usize, list: &[u8]) -> bool
     if !shelf.log_failed() {
         return false;
     }
-    if !shelf.has_failed(stripe::places::member(g.d, x, i)) {
+    if !shelf.role_failed(x, i) {
         return false;
     }
     stale::is_stale(list, g, x)
@@ -354,16 +354,16 @@ fn withheld_at(shelf: record::Shelf, x: usize, list: &[u8]) -> bool
     stale::is_stale(list, g, x)
 }
 
-// Whether a data disk of stripe x has failed.
+// Whether a data block of stripe x is on a failed member.
 fn data_failed_at(shelf: record::Shelf, x: usize) -> bool
     requires { ⌜ InRange (shelf .geometry) ⌝ }
     ensures { λ r. ⌜ r ≡ dataFailedAt shelf x ⌝ }
 {
-    let d = shelf.geometry.d;
-    let mut i = d;
+    let lost = shelf.failed_roles(x);
+    let mut i = shelf.geometry.d;
     while i > 0 {
         i -= 1;
-        if shelf.has_failed(stripe::places::member(d, x, i)) {
+        if lost[i] {
             return true;
         }
     }
@@ -374,7 +374,7 @@ fn data_failed_at(shelf: record::Shelf, x: usize) -> bool
 pub fn bad_measures(g: record::Geometry) -> bool
     ensures { λ r. ⌜ r ≡ badMeasures g ⌝ }
 {
-    let e = outside(1, 4096, g.e);
+    let e = either(outside(1, 4096, g.e), 1 < g.layout);
     let h = either(outside(1, 256, g.h), e);
     let l = either(outside(1, 65536, g.l), h);
     let b = either(outside(1, 4096, g.b), l);

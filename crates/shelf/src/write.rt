@@ -6,7 +6,8 @@ use super::record;
 use super::share;
 ghost use mathlib.Core.Path.{_≡_};
 ghost use lib.ListN.{length};
-ghost use Rattle.stripe.specs.Places.{place, parityMade};
+ghost use Rattle.stripe.specs.Places.{parityMade};
+ghost use Rattle.shelf.specs.Members.{placeAt};
 ghost use Rattle.shelf.specs.Lent.{lent, logLength};
 ghost use Rattle.shelf.specs.Writing.{newStored, Storable, MakesStripe, WritesStripe, Writable, WriteReady, WrittenTo};
 
@@ -97,8 +98,8 @@ fn make_stripe(
 // Stores the share of stripe t in the array and makes the stripe's parity.
 fn store_parity(g: record::Geometry, t: usize, share: share::Share, source: &[u8], array: &mut [u8])
     requires { ⌜ Storable g t share (length (now source)) (length (now array)) ⌝ }
-    ensures { λ _. ⌜ now (array .exit) ≡ parityMade (place (g .d) (g .s) t) (g .d) (g .b) (newStored g t share (now (source .entry)) (now (array .entry))) ⌝ }
+    ensures { λ _. ⌜ now (array .exit) ≡ parityMade (placeAt g t) (g .d) (g .b) (newStored g t share (now (source .entry)) (now (array .entry))) ⌝ }
 {
     log::store_new(g, t, share, source, array);
-    stripe::parity::make_parity(array, g.d, g.s, t, g.b);
+    stripe::parity::make_parity(array, g.layout, g.d, g.s, t, g.b);
 }

@@ -9,6 +9,7 @@ pub mod RowLaws
 pub mod WeightRule
 pub mod Sums
 pub mod ColumnLaws
+pub mod MemberLaws
 pub mod PlaceLaws
 pub mod ParityLaws
 pub mod SolveLaws

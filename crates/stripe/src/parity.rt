@@ -12,23 +12,23 @@ ghost use Rattle.stripe.specs.Places.{inOrder, place, numbered, parityMa
 ghost use Rattle.stripe.specs.Steps.{Starts, taken, plus, twicePlus, PutRow, Spans, Disjoint, SumsAt, Partly};
 
 // Makes P and Q of every stripe of the array, of stripes stripes.
-pub fn make_all_parity(array: &mut [u8], d: usize, stripes: usize, b: usize)
+pub fn make_all_parity(array: &mut [u8], layout: usize, d: usize, stripes: usize, b: usize)
     requires { ⌜ (2 ≤ d) × ((d ≤ 16) × ((stripes ≤ 65536) × ((1 ≤ b) × ((b ≤ 4096) × (length (now array) ≡ (d + 2) * stripes * b))))) ⌝ }
-    ensures { λ _. ⌜ now (array .exit) ≡ parityMadeAll stripes (place d stripes) d b (now (array .entry)) ⌝ }
+    ensures { λ _. ⌜ now (array .exit) ≡ parityMadeAll stripes (place layout d stripes) d b (now (array .entry)) ⌝ }
 {
     let mut s: usize = 0;
     while s < stripes {
-        make_parity(array, d, stripes, s, b);
+        make_parity(array, layout, d, stripes, s, b);
         s += 1;
     }
 }
 
 // Makes P and Q of stripe s of the array, of stripes stripes.
-pub fn make_parity(array: &mut [u8], d: usize, stripes: usize, s: usize, b: usize)
+pub fn make_parity(array: &mut [u8], layout: usize, d: usize, stripes: usize, s: usize, b: usize)
     requires { ⌜ Measures d stripes s b (length (now array)) ⌝ }
-    ensures { λ _. ⌜ now (array .exit) ≡ parityMade (place d stripes s) d b (now (array .entry)) ⌝ }
+    ensures { λ _. ⌜ now (array .exit) ≡ parityMade (place layout d stripes s) d b (now (array .entry)) ⌝ }
 {
-    let ns = places::block_numbers(d, stripes, s);
+    let ns = places::block_numbers(layout, d, stripes, s);
     make_at(array, &ns, d, b);
 }
 

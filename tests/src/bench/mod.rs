@@ -119,12 +119,12 @@ pub fn group(seed: u64) -> Outcome {
         kinds.push(format!("{count} {kind}"));
         total += count;
     }
-    let (answers, ways) = (reached.complete(AT_LEAST)?, seen.complete(AT_LEAST)?);
+    let (answers, ways) = (reached.complete(AT_LEAST)?, seen.fixed(AT_LEAST)?);
     let damages = maker.damages.into_iter().min().filter(|&least| least >= AT_LEAST).ok_or("a damage is too rare")?;
     Ok(format!(
         "{total} random inputs, {}; {} lines as the model has them, each number of each call {answers} times at least, \
-         each way of the work {ways}, each damage of a line {damages}; {stored} inputs by hand, the printed session \
-         and K4 to K13; {cuts} of that session cut at every byte; seed {seed}",
+         each way of the work {ways}, each damage of a line {damages}; {stored} inputs by hand, the printed session, \
+         K4 to K13 and seven measures; {cuts} of that session cut at every byte; seed {seed}",
         kinds.join(", "),
         reached.lines()
     ))

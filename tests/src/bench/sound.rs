@@ -6,7 +6,6 @@ use crate::random::Random;
 use crate::shelf::calls::{Call, Measures};
 use crate::shelf::events::Seen;
 use crate::shelf::lists::pick;
-use crate::shelf::model::values;
 use crate::shelf::{requests, sequences};
 
 /// The fields of a line, which are joined by single blanks.
@@ -22,15 +21,16 @@ pub fn digits(value: usize) -> Vec<u8> {
     value.to_string().into_bytes()
 }
 
-/// The fields of measures.
+/// The fields of measures; the layout is none of them.
 pub fn of_measures(m: Measures) -> Fields {
-    values(m).map(digits).to_vec()
+    let Measures { d, s, b, l, h, e, .. } = m;
+    [d, s, b, l, h, e].map(digits).to_vec()
 }
 
 /// Random measures that the program accepts.
 pub fn measures(random: &mut Random) -> Measures {
     loop {
-        let m = sequences::measures(random);
+        let m = Measures { layout: 0, ..sequences::measures(random) };
         if Bench::fresh(m).is_some() {
             return m;
         }
@@ -101,7 +101,7 @@ pub fn calls(m: Measures, most: usize, random: &mut Random) -> Result<Vec<Fields
 /// Measures of a small shelf with room for all its blocks in log and list.
 pub fn roomy(random: &mut Random) -> Measures {
     let (d, s, b, h) = (2 + pick(5, random), 1 + pick(3, random), 1 + pick(3, random), 1 + pick(8, random));
-    Measures { d, s, b, l: 4 * d * s, h, e: d * s }
+    Measures { d, s, b, l: 4 * d * s, h, e: d * s, layout: 0 }
 }
 
 /// The call lines of a session in which members fail after logged writes, the first of them over all blocks of a stripe

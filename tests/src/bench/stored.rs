@@ -139,9 +139,15 @@ fn stored(&(name, measures, steps): &Session) -> Stored {
     Stored { name, input, output }
 }
 
-/// The customer's session as it is printed, and those of the marked examples.
+/// The customer's session with a seventh measure, in which a shelf has its layout: it can't be read.
+fn with_layout(layout: usize) -> Stored {
+    let input = INPUT.replacen("3 2 1 4 2 4\n", &format!("3 2 1 4 2 4 {layout}\n"), 1);
+    Stored { name: "seven measures", input, output: [COLUMNS, "format 1 0 0 0 0"].map(String::from).to_vec() }
+}
+
+/// The customer's session as it is printed, those of the marked examples, and ones with seven measures.
 pub fn all() -> Vec<Stored> {
     let output = OUTPUT.lines().map(String::from).collect();
     let printed = Stored { name: "the printed session", input: INPUT.into(), output };
-    [printed].into_iter().chain(SESSIONS.iter().map(stored)).collect()
+    [printed].into_iter().chain(SESSIONS.iter().map(stored)).chain([0, 1].map(with_layout)).collect()
 }

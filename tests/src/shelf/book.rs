@@ -65,9 +65,21 @@ impl Book {
         self.members.contains(&(self.m.d + 2))
     }
 
-    /// Whether an address has its own disk and the log both failed while its stripe awaits resynchronisation.
+    /// How far a member stands after the one that has P in a stripe, counted round: 0 is P's own, 1 is Q's, 2 that of
+    /// data index 0, and so on.
+    pub fn after_p(&self, member: usize, stripe: usize) -> usize {
+        let n = self.m.d + 2;
+        match self.m.layout {
+            0 => (member + 2) % n,
+            _ => (member + stripe + 1) % n,
+        }
+    }
+
+    /// Whether an address has its own member and the log both failed while its stripe awaits resynchronisation.
     pub fn withholds(&self, address: usize) -> bool {
-        self.members.contains(&(address % self.m.d)) && self.log_failed() && self.awaits(address / self.m.d)
+        let (stripe, place) = (address / self.m.d, 2 + address % self.m.d);
+        let is_lost = |&member: &usize| member < self.m.d + 2 && self.after_p(member, stripe) == place;
+        self.log_failed() && self.awaits(stripe) && self.members.iter().any(is_lost)
     }
 
     /// The number that a call gets, which is given so many bytes of data.
@@ -183,13 +195,17 @@ impl Book {
         }
     }
 
-    /// Clears the array's members; had P or Q failed, all marks go and the mode is 0.
+    /// Clears the array's members. The marks of each stripe whose P or Q was on one of them go; if there was such a
+    /// stripe and no mark is left, the mode is 0.
     fn rebuild(&mut self) {
-        let d = self.m.d;
-        if self.members.contains(&d) || self.members.contains(&(d + 1)) {
-            self.marks.clear();
+        let log = self.m.d + 2;
+        let lost: Vec<usize> = self.members.iter().copied().filter(|&member| member != log).collect();
+        let made_afresh: Vec<bool> =
+            (0..self.m.s).map(|stripe| lost.iter().any(|&member| self.after_p(member, stripe) < 2)).collect();
+        self.marks.retain(|mark| !made_afresh[mark / self.m.d]);
+        if made_afresh.contains(&true) && self.marks.is_empty() {
             self.mode = 0;
         }
-        self.members.retain(|&member| member == d + 2);
+        self.members.retain(|&member| member == log);
     }
 }

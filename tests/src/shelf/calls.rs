@@ -2,7 +2,7 @@
 
 use std::fmt;
 
-/// The measures of a shelf, in the order of the record.
+/// The measures of a shelf, in the order of the record. The layout is 0 where parity is fixed, 1 where it rotates.
 #[repr(C)]
 #[derive(Clone, Copy, Debug, PartialEq)]
 pub struct Measures {
@@ -12,6 +12,7 @@ pub struct Measures {
     pub l: usize,
     pub h: usize,
     pub e: usize,
+    pub layout: usize,
 }
 
 /// The record of a shelf. A flag is a byte, 0 or 1.
@@ -179,9 +180,10 @@ pub struct Shelf {
 impl fmt::Display for Shelf {
     /// Writes the shelf as a failure names it: the record, the lengths, and a short list whole.
     fn fmt(&self, out: &mut fmt::Formatter) -> fmt::Result {
-        let Record { measures: Measures { d, s, b, l, h, e }, mode, next, listed, failed } = self.record;
+        let Record { measures: Measures { d, s, b, l, h, e, layout }, mode, next, listed, failed } = self.record;
         let members: Vec<usize> = (0..failed.len()).filter(|&member| failed[member] != 0).collect();
-        write!(out, "d {d}, S {s}, B {b}, L {l}, H {h}, E {e}, mode {mode}, next {next}, listed {listed}, ")?;
+        write!(out, "d {d}, S {s}, B {b}, L {l}, H {h}, E {e}, layout {layout}, ")?;
+        write!(out, "mode {mode}, next {next}, listed {listed}, ")?;
         write!(out, "failed {members:?}, array of {}, log of {}, ", self.array.told, self.log.told)?;
         write!(out, "data of {}, list of {} bytes", self.data.told, self.list.told)?;
         if self.list.bytes.len() > 400 {

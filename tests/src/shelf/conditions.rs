@@ -2,6 +2,7 @@
 
 use super::calls::{Call, Shelf};
 use super::model::failed;
+use super::roles;
 
 /// The bit of a number where it applies.
 fn is(number: u32, applies: bool) -> u32 {
@@ -42,12 +43,15 @@ fn request(shelf: &Shelf, address: usize, count: usize) -> u32 {
     is(4, bad_address) | is(5, wide(shelf.data.told) != wide(count) * wide(m.b))
 }
 
-/// Whether the log failed and a wanted block is on a failed disk in a waiting stripe.
+/// Whether the log failed and a wanted data block is on a failed member in a waiting stripe.
 fn withheld(shelf: &Shelf, is_listed: &[bool], wanted: impl Fn(usize) -> bool) -> bool {
     let (r, d) = (&shelf.record, shelf.record.measures.d);
     if !failed(r, d.saturating_add(2)) {
         return false;
     }
-    let mut blocks = 0..is_listed.len();
-    blocks.any(|block| wanted(block) && failed(r, block % d) && is_listed[block / d * d..][..d].contains(&true))
+    let mut stripes = is_listed.chunks(d.max(1)).enumerate().filter(|(_, blocks)| blocks.contains(&true));
+    stripes.any(|(stripe, _)| {
+        let members = roles::members(r.measures, stripe);
+        (0..d).any(|index| wanted(stripe * d + index) && failed(r, members[index]))
+    })
 }

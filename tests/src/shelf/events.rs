@@ -1,4 +1,5 @@
-//! The ways in which an accepted call does its work, so that a group can tell whether it came through all of them.
+//! The ways in which an accepted call does its work, so that a group can tell whether it came through all of them, in
+//! each layout.
 
 /// Declares the ways of the work, and the list of them all.
 macro_rules! events {
@@ -45,10 +46,20 @@ events! {
     RebuildParity,
     RebuildParityListed,
     RebuildWithoutLog,
+    RebuildDropsNone,
+    RebuildDropsLast,
+    RebuildEndsAccelerating,
+    RebuildGoesOnAccelerating,
+    RebuildDropsSome,
+    RebuildBothOfOne,
     FullResyncFresh,
     FullResyncListed,
     FullResyncWithoutLog,
 }
+
+/// The ways that are there only where parity rotates: some listed blocks are dropped and others are not, and the same
+/// member had data of one stripe and parity of another.
+const OF_ROTATING: [Event; 2] = [Event::RebuildDropsSome, Event::RebuildBothOfOne];
 
 /// The ways of one call.
 #[derive(Clone, Copy, Default)]
@@ -66,32 +77,44 @@ impl Events {
     }
 }
 
-/// In how many calls each way was gone.
-pub struct Seen([usize; ALL.len()]);
+/// In how many calls each way was gone, by layout.
+pub struct Seen([[usize; ALL.len()]; 2]);
 
 impl Default for Seen {
     /// Counts of nothing so far.
     fn default() -> Seen {
-        Seen([0; ALL.len()])
+        Seen([[0; ALL.len()]; 2])
     }
 }
 
 impl Seen {
-    /// Counts a call.
-    pub fn count(&mut self, events: Events) {
+    /// Counts a call on a shelf of this layout.
+    pub fn count(&mut self, layout: usize, events: Events) {
         for &event in ALL.iter().filter(|&&event| events.has(event)) {
-            self.0[event as usize] += 1;
+            self.0[layout][event as usize] += 1;
         }
     }
 
-    /// Fails unless each way was gone so many times. Hands back the least count.
+    /// Fails unless each way was gone so many times in each layout that has it. Hands back the least count.
     pub fn complete(&self, at_least: usize) -> Result<usize, String> {
-        for &event in ALL {
-            let count = self.0[event as usize];
+        Ok(self.fixed(at_least)?.min(self.least(1, at_least)?))
+    }
+
+    /// The same where parity is fixed alone.
+    pub fn fixed(&self, at_least: usize) -> Result<usize, String> {
+        self.least(0, at_least)
+    }
+
+    /// The same in one layout.
+    fn least(&self, layout: usize, at_least: usize) -> Result<usize, String> {
+        let mut least = usize::MAX;
+        for &event in ALL.iter().filter(|event| layout == 1 || !OF_ROTATING.contains(event)) {
+            let count = self.0[layout][event as usize];
             if count < at_least {
-                return Err(format!("{event:?} was seen {count} times, not {at_least}"));
+                return Err(format!("{event:?} was seen {count} times in layout {layout}, not {at_least}"));
             }
+            least = least.min(count);
         }
-        Ok(self.0.iter().copied().min().unwrap_or(0))
+        Ok(least)
     }
 }

@@ -2,8 +2,10 @@
 
 use super::calls::{Buffer, Call, Measures, Record, Shelf};
 use super::damage::damage_list;
+use super::layout::List;
 use super::lists::{self, pick};
 use super::model::{lengths, OF_LIST};
+use super::roles;
 use super::stand::Stand;
 use crate::random::Random;
 use crate::Outcome;
@@ -37,8 +39,8 @@ enum Used {
     Most,
 }
 
-/// A shelf of which so much is used.
-fn shelf(measures: [usize; 6], used: Used, random: &mut Random) -> Shelf {
+/// A shelf of this layout of which so much is used.
+fn shelf(measures: [usize; 6], layout: usize, used: Used, random: &mut Random) -> Shelf {
     let [d, s, b, l, h, e] = measures;
     let most = e.min(d * s);
     let (listed, next, mode) = match used {
@@ -46,7 +48,7 @@ fn shelf(measures: [usize; 6], used: Used, random: &mut Random) -> Shelf {
         Used::All => (most, l, 2),
         Used::Most => (most.saturating_sub(5).max(1), l.saturating_sub(9).max(1), 1),
     };
-    let record = Record { measures: Measures { d, s, b, l, h, e }, mode, next, listed, failed: [0; 19] };
+    let record = Record { measures: Measures { d, s, b, l, h, e, layout }, mode, next, listed, failed: [0; 19] };
     let lent = |length: u128| Buffer { bytes: filled(length), told: length as usize };
     let [array, log, _] = lengths(record.measures).map(lent);
     let list = Buffer::of(lists::valid(&record, random).bytes());
@@ -82,7 +84,8 @@ fn damaged(shelf: &Shelf, counts: &mut Damaged, stand: &mut Stand, random: &mut 
     Ok(())
 }
 
-/// Fails unless the calls on a shelf, and on the shelf with wrong lengths told, do as the model does.
+/// Fails unless the calls on a shelf, on the shelf with wrong lengths told, and with a layout that is none, do as the
+/// model does.
 fn tried(shelf: &Shelf, stand: &mut Stand) -> Result<(), String> {
     let log = shelf.record.measures.d + 2;
     for call in [Call::Start, Call::Fail(log), Call::Fail(log + 1), Call::NewLog] {
@@ -91,6 +94,12 @@ fn tried(shelf: &Shelf, stand: &mut Stand) -> Result<(), String> {
     for wrong in [1, 1 << 31, 1 << 32, 1 << 33] {
         let mut damaged = shelf.clone();
         damaged.array.told = damaged.array.told.wrapping_sub(wrong);
+        stand.as_model(Call::Start, &damaged)?;
+        stand.as_model(Call::Format, &damaged)?;
+    }
+    for layout in [2, 3, 1 << 32, (1 << 32) + 1, usize::MAX] {
+        let mut damaged = shelf.clone();
+        damaged.record.measures.layout = layout;
         stand.as_model(Call::Start, &damaged)?;
         stand.as_model(Call::Format, &damaged)?;
     }
@@ -117,10 +126,14 @@ fn ranges(m: Measures) -> [(usize, usize); 4] {
     [(0, 1), (all - some, some), (all - 1, 1), (0, some)]
 }
 
-/// The sets of failed members with which blocks are served.
-fn failed_sets(m: Measures) -> [Vec<usize>; 6] {
+/// The sets of failed members with which blocks are served. Where parity rotates once round or more, each member has
+/// every role, so that three sets serve for the others.
+fn failed_sets(m: Measures) -> Vec<Vec<usize>> {
     let (last, p, q, log) = (m.d - 1, m.d, m.d + 1, m.d + 2);
-    [vec![], vec![0, log], vec![0, last], vec![last, p], vec![0, q], vec![p, log]]
+    match m.layout {
+        1 if m.s >= m.d + 2 => vec![vec![], vec![0, log], vec![0, last], vec![p, q]],
+        _ => vec![vec![], vec![0, log], vec![0, last], vec![last, p], vec![0, q], vec![p, log]],
+    }
 }
 
 /// Whether a rebuild is slow: one slot, and the most stripes; none is made then.
@@ -164,12 +177,19 @@ fn worn_out(mut shelf: Shelf, stand: &mut Stand, random: &mut Random) -> Result<
     Ok(())
 }
 
+/// The member that has the first listed block; 0 if none is listed.
+fn of_first_listed(shelf: &Shelf) -> usize {
+    let m = shelf.record.measures;
+    let listed = List::of(m, &shelf.list.bytes).entries();
+    listed.keys().next().map_or(0, |address| roles::members(m, address / m.d)[address % m.d])
+}
+
 /// Fails unless calls on a shelf of which one byte is lent are refused unseen, as the model does: for an address past
 /// the end, data of which 32 bits tell the right length, a failed member, a stripe that waits, or nothing to do.
 fn refused(shelf: &Shelf, stand: &mut Stand) -> Result<(), String> {
     let m = shelf.record.measures;
     let (all, log) = (m.d * m.s, m.d + 2);
-    let mut shelf = with_failed(shelf, &[0, log]);
+    let mut shelf = with_failed(shelf, &[of_first_listed(shelf), log]);
     shelf.data = Buffer { bytes: vec![1], told: all * m.b };
     for (address, count) in [(0, all), (1, all), (all, all), (usize::MAX - all + 2, all)] {
         stand.as_model(Call::Write { address, count }, &shelf)?;
@@ -195,36 +215,42 @@ fn refused(shelf: &Shelf, stand: &mut Stand) -> Result<(), String> {
     Ok(())
 }
 
-/// Tries the shelves at the limits.
+/// Tries the shelves at the limits in this layout. Fails unless a list was damaged in each way; hands back how often at
+/// least.
+fn all(layout: usize, stand: &mut Stand, random: &mut Random) -> Result<usize, String> {
+    let mut counts = [0; OF_LIST.len()];
+    for (measures, used) in
+        WHOLE.into_iter().flat_map(|whole| [Used::Nothing, Used::All, Used::Most].map(|used| (whole, used)))
+    {
+        let shelf = shelf(measures, layout, used, random);
+        damaged(&shelf, &mut counts, stand, random)?;
+        if used != Used::Most {
+            tried(&shelf, stand)?;
+            stand.as_model(Call::Format, &shelf)?;
+        }
+        served(&shelf, stand)?;
+        worn_out(shelf, stand, random)?;
+    }
+    for (measures, used) in TOLD.into_iter().flat_map(|told| [Used::Nothing, Used::All].map(|used| (told, used))) {
+        let shelf = shelf(measures, layout, used, random);
+        damaged(&shelf, &mut counts, stand, random)?;
+        tried(&shelf, stand)?;
+        refused(&shelf, stand)?;
+    }
+    match counts.iter().position(|&count| count == 0) {
+        Some(at) => Err(format!("no list was damaged to have {:?} in layout {layout}", OF_LIST[at])),
+        None => Ok(counts.into_iter().min().unwrap_or(0)),
+    }
+}
+
+/// Tries the shelves in both layouts.
 pub fn group(seed: u64) -> Outcome {
     let random = &mut Random::new(seed, 7);
-    let (mut stand, mut counts) = (Stand::default(), [0; OF_LIST.len()]);
-    for measures in WHOLE {
-        for used in [Used::Nothing, Used::All, Used::Most] {
-            let shelf = shelf(measures, used, random);
-            damaged(&shelf, &mut counts, &mut stand, random)?;
-            if used != Used::Most {
-                tried(&shelf, &mut stand)?;
-                stand.as_model(Call::Format, &shelf)?;
-            }
-            served(&shelf, &mut stand)?;
-            worn_out(shelf, &mut stand, random)?;
-        }
-    }
-    for measures in TOLD {
-        for used in [Used::Nothing, Used::All] {
-            let shelf = shelf(measures, used, random);
-            damaged(&shelf, &mut counts, &mut stand, random)?;
-            tried(&shelf, &mut stand)?;
-            refused(&shelf, &mut stand)?;
-        }
-    }
-    let (shelves, least) = (3 * WHOLE.len() + 2 * TOLD.len(), counts.into_iter().min().unwrap_or(0));
-    match counts.iter().position(|&count| count == 0) {
-        Some(at) => Err(format!("no list was damaged to have {:?}", OF_LIST[at])),
-        None => Ok(format!(
-            "{} calls on {shelves} shelves at the limits, {least} lists at least damaged in each way; seed {seed}",
-            stand.calls
-        )),
-    }
+    let stand = &mut Stand::default();
+    let least = all(0, stand, random)?.min(all(1, stand, random)?);
+    Ok(format!(
+        "{} calls on {} shelves at the limits in each layout, {least} lists at least damaged in each way; seed {seed}",
+        stand.calls,
+        3 * WHOLE.len() + 2 * TOLD.len()
+    ))
 }

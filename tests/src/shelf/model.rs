@@ -24,6 +24,7 @@ pub enum Fault {
     HighH,
     LowE,
     HighE,
+    HighLayout,
     ModeAbove2,
     FlagAboveLog,
     ThreeFlags,
@@ -65,8 +66,9 @@ pub enum Fault {
 
 use Fault::*;
 
-/// The faults of the measures, two for each in the order of the record.
-pub const OF_MEASURES: [Fault; 12] = [LowD, HighD, LowS, HighS, LowB, HighB, LowL, HighL, LowH, HighH, LowE, HighE];
+/// The faults of the measures in the order of the record: each can be too high or too low, the layout too high only.
+pub const OF_MEASURES: [Fault; 13] =
+    [HighD, LowD, HighS, LowS, HighB, LowB, HighL, LowL, HighH, LowH, HighE, LowE, HighLayout];
 
 /// The faults of the rest of the record.
 pub const OF_RECORD: [Fault; 9] = [
@@ -114,7 +116,7 @@ pub const OF_LIST: [Fault; 25] = [
 ];
 
 /// The least and the greatest value of each measure, in the order of the record.
-pub const RANGES: [(usize, usize); 6] = [(2, 16), (1, 65536), (1, 4096), (1, 65536), (1, 256), (1, 4096)];
+pub const RANGES: [(usize, usize); 7] = [(2, 16), (1, 65536), (1, 4096), (1, 65536), (1, 256), (1, 4096), (0, 1)];
 
 /// A set of faults.
 #[derive(Clone, Copy, Default, PartialEq)]
@@ -177,16 +179,16 @@ impl Findings {
 }
 
 /// The measures as a list, in the order of the record.
-pub fn values(m: Measures) -> [usize; 6] {
-    [m.d, m.s, m.b, m.l, m.h, m.e]
+pub fn values(m: Measures) -> [usize; 7] {
+    [m.d, m.s, m.b, m.l, m.h, m.e, m.layout]
 }
 
 /// The faults of the measures.
 fn measure_faults(m: Measures) -> Faults {
     let mut faults = Faults::default();
-    for (at, (value, (low, high))) in values(m).into_iter().zip(RANGES).enumerate() {
-        faults.add(OF_MEASURES[2 * at], value < low);
-        faults.add(OF_MEASURES[2 * at + 1], value > high);
+    for (at, fault) in OF_MEASURES.into_iter().enumerate() {
+        let (value, (low, high)) = (values(m)[at / 2], RANGES[at / 2]);
+        faults.add(fault, if at % 2 == 0 { value > high } else { value < low });
     }
     faults
 }
@@ -212,7 +214,7 @@ fn record_faults(r: &Record, faults: &mut Faults) {
 
 /// The lengths of array, log and list that the measures ask for.
 pub fn lengths(m: Measures) -> [u128; 3] {
-    let [d, s, b, l, h, e] = values(m).map(|value| value as u128);
+    let [d, s, b, l, h, e, _] = values(m).map(|value| value as u128);
     [((d + 2) * s).saturating_mul(b), l * b, 4 * h + 16 * e]
 }
 

@@ -4,6 +4,7 @@ use super::book::Book;
 use super::calls::{Buffer, Call, Measures, Record, Shelf};
 use super::layout::List;
 use super::model::lengths;
+use super::roles;
 use super::stand::Stand;
 use crate::model::made;
 
@@ -44,16 +45,17 @@ impl Pair {
         Ok(due)
     }
 
-    /// Fails unless the blocks that a read gave, or with which a rebuild filled the disks that had failed, are the
+    /// Fails unless the blocks that a read gave, or with which a rebuild filled the members that had failed, are the
     /// book's.
     fn exact(&self, call: Call, failed: &[u8; 19], data: &[u8]) -> Result<(), String> {
-        let Measures { d, s, b, .. } = self.shelf.record.measures;
+        let m = self.shelf.record.measures;
         let given: Vec<(usize, &[u8])> = match call {
-            Call::Read { address, .. } => (address..).zip(data.chunks(b)).collect(),
-            Call::Rebuild => {
-                let filled = (0..d * s).filter(|address| failed[address % d] != 0);
-                filled.map(|address| (address, self.stored(address % d, address / d))).collect()
-            }
+            Call::Read { address, .. } => (address..).zip(data.chunks(m.b)).collect(),
+            Call::Rebuild => (0..m.d * m.s)
+                .map(|address| (address, address / m.d, roles::members(m, address / m.d)[address % m.d]))
+                .filter(|&(_, _, member)| failed[member] != 0)
+                .map(|(address, stripe, member)| (address, self.stored(member, stripe)))
+                .collect(),
             _ => Vec::new(),
         };
         match given.into_iter().find(|&(address, block)| block != self.book.block(address)) {
@@ -64,8 +66,19 @@ impl Pair {
         }
     }
 
+    /// Overwrites the failed members.
+    pub fn spoil(&mut self) {
+        let Record { measures: Measures { d, s, b, .. }, failed, .. } = self.shelf.record;
+        for member in (0..d + 2).filter(|&member| failed[member] != 0) {
+            self.shelf.array.bytes[member * s * b..][..s * b].fill(200 + member as u8);
+        }
+        if failed[d + 2] != 0 {
+            self.shelf.log.bytes.fill(250);
+        }
+    }
+
     /// The bytes of a member's block in a stripe.
-    fn stored(&self, member: usize, stripe: usize) -> &[u8] {
+    pub fn stored(&self, member: usize, stripe: usize) -> &[u8] {
         let Measures { s, b, .. } = self.shelf.record.measures;
         &self.shelf.array.bytes[(member * s + stripe) * b..][..b]
     }
@@ -83,16 +96,17 @@ impl Pair {
         Err(format!("the book has mode, u {counts:?}, {members:?} failed, {marks:?} marked; the shelf: {}", self.shelf))
     }
 
-    /// Fails unless each data block on a sound disk is the book's, and P and Q, each where its disk is sound, are those
-    /// of the book's blocks in every stripe that does not await resynchronisation.
+    /// Fails unless each data block on a sound member is the book's, and P and Q, each where its member is sound, are
+    /// those of the book's blocks in every stripe that does not await resynchronisation.
     pub fn holds(&self) -> Result<(), String> {
-        let Measures { d, s, b, .. } = self.shelf.record.measures;
+        let m = self.shelf.record.measures;
+        let Measures { d, s, b, .. } = m;
         for stripe in 0..s {
             let data = (stripe * d..(stripe + 1) * d).flat_map(|address| self.book.block(address));
             let row = made(d, b, &data.copied().chain(vec![0; 2 * b]).collect::<Vec<u8>>());
-            let last = if self.book.awaits(stripe) { d } else { d + 2 };
-            for member in (0..last).filter(|&member| self.shelf.record.failed[member] == 0) {
-                if row[member * b..][..b] != *self.stored(member, stripe) {
+            let count = if self.book.awaits(stripe) { d } else { d + 2 };
+            for (block, member) in row.chunks(b).zip(roles::members(m, stripe)).take(count) {
+                if self.shelf.record.failed[member] == 0 && block != self.stored(member, stripe) {
                     return Err(format!("member {member} of stripe {stripe} is not the book's; {}", self.shelf));
                 }
             }

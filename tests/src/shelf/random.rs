@@ -13,7 +13,7 @@ use crate::random::Random;
 use crate::Outcome;
 
 /// How many shelves are tried; each is lent to all nine calls.
-const SHELVES: usize = 60_000;
+const SHELVES: usize = 80_000;
 
 /// The most bytes that a buffer has which is lent whole: a little more than the longest list.
 const WHOLE: usize = 70_000;
@@ -180,13 +180,13 @@ fn some_request(writes: bool, m: Measures, random: &mut Random) -> (Call, Buffer
 fn tried(shelf: &mut Shelf, stand: &mut Stand, tally: &mut Tally, random: &mut Random) -> Result<(), String> {
     for (call, data) in nine_calls(shelf.record.measures, random) {
         shelf.data = data;
-        tally.count(call, &stand.as_model(call, shelf)?);
+        tally.count(call, shelf, &stand.as_model(call, shelf)?);
     }
     for _ in 0..4 {
         let mut calls = nine_calls(shelf.record.measures, random);
         let (call, data) = &mut calls[pick(8, random)];
         std::mem::swap(&mut shelf.data, data);
-        tally.count(*call, &stand.as_model(*call, shelf)?);
+        tally.count(*call, shelf, &stand.as_model(*call, shelf)?);
         stand.hand_on(shelf);
     }
     Ok(())
@@ -220,8 +220,8 @@ pub fn group(seed: u64) -> Outcome {
     let least = tally.complete()?;
     stand.seen.complete(1)?;
     Ok(format!(
-        "{} calls on {SHELVES} shelves, sound, damaged and nonsense; each call with each fault of rows 1 to 3 alone, \
-         {least} times at least; seed {seed}",
+        "{} calls on {SHELVES} shelves of both layouts, sound, damaged and nonsense; in each layout each call with \
+         each fault of rows 1 to 3 alone, {least} times at least; seed {seed}",
         stand.calls
     ))
 }

@@ -15,6 +15,7 @@ pub fn measures(random: &mut Random) -> Measures {
         l: 1 + pick(12, random),
         h: 1 + pick(5, random),
         e: 1 + pick(16, random),
+        layout: pick(2, random),
     }
 }
 
@@ -69,14 +70,14 @@ pub fn valid(m: Measures, random: &mut Random) -> Record {
 
 /// Puts a value in the place of a measure.
 pub fn put_measure(m: &mut Measures, at: usize, value: usize) {
-    *[&mut m.d, &mut m.s, &mut m.b, &mut m.l, &mut m.h, &mut m.e][at] = value;
+    *[&mut m.d, &mut m.s, &mut m.b, &mut m.l, &mut m.h, &mut m.e, &mut m.layout][at] = value;
 }
 
 /// Damages a valid record so that the fault applies, if possible alone; none where this record does not allow it.
 pub fn damage(fault: Fault, r: &mut Record, random: &mut Random) -> Option<()> {
     if let Some(at) = OF_MEASURES.iter().position(|&other| other == fault) {
         let (low, high) = RANGES[at / 2];
-        let value = if at % 2 == 0 { pick(low, random) } else { above(high, random) };
+        let value = if at % 2 == 0 { above(high, random) } else { pick(low, random) };
         put_measure(&mut r.measures, at / 2, value);
         return Some(());
     }
@@ -108,7 +109,7 @@ pub fn damage(fault: Fault, r: &mut Record, random: &mut Random) -> Option<()> {
 
 /// Makes some measures, and sometimes the other numbers, anything.
 pub fn garble(r: &mut Record, random: &mut Random) {
-    for at in 0..6 {
+    for at in 0..RANGES.len() {
         if random.below(3) == 0 {
             let value = match random.below(4) {
                 0 => 0,

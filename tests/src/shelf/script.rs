@@ -44,9 +44,18 @@ pub struct Script {
 }
 
 impl Script {
-    /// A shelf of these measures that format has set up.
+    /// A shelf of these measures that format has set up; its parity is fixed.
     pub fn fresh(d: usize, s: usize, b: usize, [l, h, e]: [usize; 3], stand: &mut Stand) -> Result<Script, String> {
-        let m = Measures { d, s, b, l, h, e };
+        Script::of(Measures { d, s, b, l, h, e, layout: 0 }, stand)
+    }
+
+    /// The same where parity rotates.
+    pub fn rotating(d: usize, s: usize, b: usize, [l, h, e]: [usize; 3], stand: &mut Stand) -> Result<Script, String> {
+        Script::of(Measures { d, s, b, l, h, e, layout: 1 }, stand)
+    }
+
+    /// The same of either layout.
+    fn of(m: Measures, stand: &mut Stand) -> Result<Script, String> {
         let [array, log, list] = lengths(m).map(|length| Buffer::of(vec![77; length as usize]));
         let record = Record { measures: m, mode: 9, next: 9, listed: 9, failed: [1; 19] };
         let mut script = Script { shelf: Shelf { record, array, log, list, data: Buffer::empty() }, byte: 77 };

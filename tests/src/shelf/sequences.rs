@@ -15,7 +15,7 @@ use crate::random::Random;
 use crate::Outcome;
 
 /// How many sequences are made, and the most calls of one.
-const SEQUENCES: usize = 8_000;
+const SEQUENCES: usize = 12_000;
 const LONGEST: usize = 96;
 
 /// The most bytes of an array of which all blocks are compared with the book's after every call.
@@ -40,7 +40,7 @@ fn block_size(random: &mut Random) -> usize {
     }
 }
 
-/// Random measures: a log and a list with room for one block, for a stripe, for some, or for all.
+/// Random measures, of either layout: a log and a list with room for one block, for a stripe, for some, or for all.
 pub fn measures(random: &mut Random) -> Measures {
     let b = block_size(random);
     let d = 2 + pick(if random.below(3) == 0 { 15 } else { 4 }, random);
@@ -49,8 +49,8 @@ pub fn measures(random: &mut Random) -> Measures {
     let rooms = [1, d, 3 * d, d * s, 2 * d * s, 4 * d * s];
     let l = up_to(rooms[pick(6, random)], random);
     let e = up_to(rooms[pick(6, random)], random).min(4096);
-    let h = [1, 2, d, 7, 256][pick(5, random)];
-    Measures { d, s, b, l: l.min(65536), h: if random.below(4) == 0 { 1 + pick(256, random) } else { h }, e }
+    let h = if random.below(4) == 0 { 1 + pick(256, random) } else { [1, 2, d, 7, 256][pick(5, random)] };
+    Measures { d, s, b, l: l.min(65536), h, e, layout: pick(2, random) }
 }
 
 /// A member to fail: the log, P or Q, a disk, one that is no member or has failed already.
@@ -165,8 +165,8 @@ fn resynced(pair: &mut Pair, stand: &mut Stand) -> Result<(), String> {
     Ok(())
 }
 
-/// What the sequences came through: the calls by number, how many rebuilds and reads were withheld, and how many calls of
-/// each kind were refused for the arrangement of the list.
+/// What the sequences of a layout came through: the calls by number, how many rebuilds and reads were withheld, and how
+/// many calls of each kind were refused for the arrangement of the list.
 #[derive(Default)]
 struct Counts {
     accepted: usize,
@@ -205,9 +205,10 @@ impl Counts {
     }
 }
 
-/// Makes one sequence.
-fn sequence(stand: &mut Stand, counts: &mut Counts, random: &mut Random) -> Result<(), String> {
+/// Makes one sequence; its calls are counted by its layout.
+fn sequence(stand: &mut Stand, counts: &mut [Counts; 2], random: &mut Random) -> Result<(), String> {
     let m = measures(random);
+    let counts = &mut counts[m.layout];
     let mut pair = Pair::fresh(m, random.next() as u8, stand)?;
     let (is_busy, is_small) = (random.below(2) == 0, pair.shelf.array.told <= SMALL);
     for _ in 0..pick(LONGEST, random) {
@@ -234,19 +235,23 @@ fn sequence(stand: &mut Stand, counts: &mut Counts, random: &mut Random) -> Resu
 /// Makes the random sequences.
 pub fn group(seed: u64) -> Outcome {
     let random = &mut Random::new(seed, 8);
-    let (mut stand, mut counts) = (Stand::default(), Counts::default());
+    let (mut stand, mut counts) = (Stand::default(), <[Counts; 2]>::default());
     for _ in 0..SEQUENCES {
         sequence(&mut stand, &mut counts, random)?;
     }
-    counts.complete(20)?;
+    for (layout, counts) in counts.iter().enumerate() {
+        counts.complete(20).map_err(|fault| format!("layout {layout}: {fault}"))?;
+    }
+    let sum = |of: fn(&Counts) -> usize| counts.iter().map(of).sum::<usize>();
     let least = stand.seen.complete(20)?;
     Ok(format!(
-        "{} calls in {SEQUENCES} sequences as the model and the book have them, {} accepted, {} reads and {} rebuilds \
-         withheld, {} refused for the arrangement of the list; each way of their work {least} times at least; seed {seed}",
+        "{} calls in {SEQUENCES} sequences of both layouts as the model and the book have them, {} accepted, {} reads \
+         and {} rebuilds withheld, {} refused for the arrangement of the list; each way of their work {least} times at \
+         least; seed {seed}",
         stand.calls,
-        counts.accepted,
-        counts.withheld[0],
-        counts.withheld[1],
-        counts.rearranged.iter().sum::<usize>()
+        sum(|counts| counts.accepted),
+        sum(|counts| counts.withheld[0]),
+        sum(|counts| counts.withheld[1]),
+        sum(|counts| counts.rearranged.iter().sum())
     ))
 }

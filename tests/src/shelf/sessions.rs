@@ -9,7 +9,7 @@ use crate::model::made_all;
 use crate::Outcome;
 
 /// The measures of the customer's session.
-const MEASURES: Measures = Measures { d: 3, s: 2, b: 1, l: 4, h: 2, e: 4 };
+const MEASURES: Measures = Measures { d: 3, s: 2, b: 1, l: 4, h: 2, e: 4, layout: 0 };
 
 /// The log's number on that shelf.
 const LOG: usize = 5;

@@ -55,6 +55,9 @@ impl Room {
     fn holds(&self, expected: &[u8]) -> Result<(), String> {
         self.guarded()?;
         let found = self.found();
+        if found == expected {
+            return Ok(());
+        }
         match (0..expected.len()).find(|&at| found[at] != expected[at]) {
             None => Ok(()),
             Some(at) => Err(format!("byte {at} is {}, not {}", found[at], expected[at])),
@@ -139,7 +142,7 @@ impl Stand {
         }
         let (due, events) = works::outcome(call, shelf, found.code());
         self.expect(call, shelf, &due)?;
-        self.seen.count(events);
+        self.seen.count(shelf.record.measures.layout, events);
         Ok(found)
     }
 

@@ -1,6 +1,7 @@
-//! What the cases covered: how often each number was answered, in the company of which others, and each fault alone.
+//! What the cases covered in each layout: how often each number was answered, in the company of which others, and each
+//! fault alone.
 
-use super::calls::Call;
+use super::calls::{Call, Shelf};
 use super::model::{Fault, Findings, OF_LENGTHS, OF_LIST, OF_MEASURES, OF_RECORD};
 
 /// The calls by name, with the numbers that each can answer beside 0.
@@ -34,10 +35,13 @@ fn looks_for(name: &str, faults: &[Fault]) -> bool {
 }
 
 /// Counts for each call: by the number answered and another that applied too (itself where none did), and by fault.
-pub struct Tally {
+struct Counts {
     numbers: [[[usize; 15]; 15]; 9],
     alone: [[usize; 64]; 9],
 }
+
+/// The counts of the shelves whose parity is fixed, of those where it rotates, and of those whose layout is neither.
+pub struct Tally([Counts; 3]);
 
 /// The index of a call in the counts.
 pub fn index(call: Call) -> usize {
@@ -62,12 +66,32 @@ pub fn name(index: usize) -> &'static str {
 impl Tally {
     /// Counts of nothing so far.
     pub fn new() -> Tally {
-        Tally { numbers: [[[0; 15]; 15]; 9], alone: [[0; 64]; 9] }
+        Tally([(); 3].map(|_| Counts { numbers: [[[0; 15]; 15]; 9], alone: [[0; 64]; 9] }))
     }
 
     /// Counts a case.
-    pub fn count(&mut self, call: Call, found: &Findings) {
-        let (call, code) = (index(call), found.code());
+    pub fn count(&mut self, call: Call, shelf: &Shelf, found: &Findings) {
+        self.0[shelf.record.measures.layout.min(2)].count(index(call), found);
+    }
+
+    /// Fails unless, in either layout, every call answered 0 and each of its numbers, each number was the first where
+    /// each later one applied too, and each fault was the only one of its row. A layout that is neither was the only
+    /// fault of its row too. Hands back the least count of a fault.
+    pub fn complete(&self) -> Result<usize, String> {
+        let [fixed, rotating, neither] = &self.0;
+        let mut least = usize::MAX;
+        for (layout, counts) in [("fixed", fixed), ("rotating", rotating)] {
+            let found = counts.numbers().and_then(|()| counts.faults(|fault| fault != Fault::HighLayout));
+            least = least.min(found.map_err(|fault| format!("{layout} layout: {fault}"))?);
+        }
+        Ok(least.min(neither.faults(|fault| fault == Fault::HighLayout)?))
+    }
+}
+
+impl Counts {
+    /// Counts a case of a call.
+    fn count(&mut self, call: usize, found: &Findings) {
+        let code = found.code();
         let others = found.numbers & !(1 << code);
         if others == 0 {
             self.numbers[call][code][code] += 1;
@@ -82,9 +106,9 @@ impl Tally {
         }
     }
 
-    /// Fails unless every call answered 0 and each of its numbers, each number was the first where each later one
-    /// applied too, and each fault was the only one of its row. Hands back the least count of a fault.
-    pub fn complete(&self) -> Result<usize, String> {
+    /// Fails unless every call answered 0 and each of its numbers, and each number was the first where each later one
+    /// applied too.
+    fn numbers(&self) -> Result<(), String> {
         for (call, (name, numbers)) in NUMBERS.iter().enumerate() {
             for &code in [0].iter().chain(*numbers) {
                 let meets = |other: usize| other > code && code > 0 && !APART.contains(&(name, code, other));
@@ -94,15 +118,15 @@ impl Tally {
                 }
             }
         }
-        self.faults()
+        Ok(())
     }
 
-    /// The same for the faults alone.
-    fn faults(&self) -> Result<usize, String> {
+    /// Fails unless each of the faults that are due was the only one of its row. Hands back the least count.
+    fn faults(&self, is_due: impl Fn(Fault) -> bool) -> Result<usize, String> {
         let mut least = usize::MAX;
         for (call, (name, _)) in NUMBERS.iter().enumerate() {
             for (_, faults) in FAULTS.iter().filter(|(_, faults)| looks_for(name, faults)) {
-                for &fault in *faults {
+                for &fault in faults.iter().filter(|&&fault| is_due(fault)) {
                     least = least.min(self.alone[call][fault as usize]);
                     if self.alone[call][fault as usize] == 0 {
                         return Err(format!("no case of {name} had {fault:?} alone"));

@@ -1,5 +1,6 @@
 //! Complete walks of tiny shelves: every list of one or two slots and two places over the words that matter, with every
-//! call on those that are sound; and every choice of d, mode, failed members and call, with every member to fail.
+//! call on those that are sound, in both layouts; and every choice of layout, d, mode, failed members and call, with
+//! every member to fail.
 
 use super::calls::{Buffer, Call, Measures, Record, Shelf};
 use super::lists::pick;
@@ -16,9 +17,9 @@ const PLACES: [u32; 4] = [0, 1, 2, NONE];
 const ADDRESSES: [u32; 4] = [0, 1, 2, NONE];
 const RECORDS: [u32; 3] = [0, 1, NONE];
 
-/// A shelf of one stripe of blocks of one byte.
+/// A shelf of one stripe of blocks of one byte, with fixed parity.
 fn shelf(d: usize, l: usize, h: usize, e: usize, list: Vec<u8>) -> Shelf {
-    let measures = Measures { d, s: 1, b: 1, l, h, e };
+    let measures = Measures { d, s: 1, b: 1, l, h, e, layout: 0 };
     Shelf {
         record: Record { measures, mode: 0, next: 0, listed: 0, failed: [0; 19] },
         array: Buffer::of((0..d + 2).map(|at| at as u8 + 100).collect()),
@@ -88,7 +89,8 @@ const FAILED: [&[usize]; 16] = [
 /// one with Cur too; for both addresses each with Ori, with Cur or with both.
 const SOUND: usize = 1 + 2 * 2 + 3 * 3;
 
-/// Walks all lists of so many slots, with the counts that are possible. Fails unless as many as are sound pass.
+/// Walks all lists of so many slots, with the counts that are possible, each in either layout. Fails unless as many as
+/// are sound pass.
 fn all_lists(h: usize, stand: &mut Stand, random: &mut Random) -> Result<(), String> {
     let place: [&[u32]; 4] = [&ADDRESSES, &RECORDS, &RECORDS, &PLACES];
     let choices: Vec<&[u32]> = [&PLACES[..]].repeat(h).into_iter().chain(place).chain(place).collect();
@@ -97,6 +99,7 @@ fn all_lists(h: usize, stand: &mut Stand, random: &mut Random) -> Result<(), Str
     loop {
         for (mode, next, listed) in [(0, 0, 0), (1, 1, 1), (2, 1, 2)] {
             (shelf.record.mode, shelf.record.next, shelf.record.listed) = (mode, next, listed);
+            shelf.record.measures.layout = pick(2, random);
             match stand.as_model(TESTING[pick(7, random)], &shelf)?.faults[2].count() {
                 0 => {
                     passed += 1;
@@ -117,10 +120,12 @@ fn all_lists(h: usize, stand: &mut Stand, random: &mut Random) -> Result<(), Str
     }
 }
 
-/// Makes the calls of a sound list, each with each set of failed members.
+/// Makes the calls of a sound list, each with each set of failed members, in both layouts.
 fn sound_list(shelf: &Shelf, stand: &mut Stand) -> Result<(), String> {
     let mut shelf = shelf.clone();
-    for (call, failed) in ON_SOUND.into_iter().flat_map(|call| FAILED.map(|failed| (call, failed))) {
+    let cases = FAILED.into_iter().flat_map(|failed| [(failed, 0), (failed, 1)]);
+    for (call, (failed, layout)) in ON_SOUND.into_iter().flat_map(|call| cases.clone().map(move |case| (call, case))) {
+        shelf.record.measures.layout = layout;
         shelf.record.failed = [0; 19];
         failed.iter().for_each(|&member| shelf.record.failed[member] = 1);
         let (Call::Write { count, .. } | Call::Read { count, .. }) = call else {
@@ -156,14 +161,15 @@ fn flag_sets() -> Vec<[u8; 19]> {
 /// ones.
 const FAR: [usize; 6] = [256, 65536 + 3, 1 << 32, (1 << 63) + 1, usize::MAX - 2, usize::MAX];
 
-/// Walks every d, set of flags, mode with and without a listed block, and call, with every member to fail.
+/// Walks every layout, d, set of flags, mode with and without a listed block, and call, with every member to fail.
 fn all_members(stand: &mut Stand) -> Result<(), String> {
     let word = |words: &[u32]| words.iter().flat_map(|word| word.to_le_bytes()).collect::<Vec<u8>>();
     let lists = [word(&[NONE; 5]), word(&[0, 1, 0, NONE, NONE])];
     let sets = flag_sets();
-    for d in 2..=16 {
+    for (d, layout) in (2..=16).flat_map(|d| [(d, 0), (d, 1)]) {
         for (mode, listed) in (0..4).flat_map(|mode| [(mode, 0), (mode, 1)]) {
             let mut shelf = shelf(d, 1, 1, 1, lists[listed].clone());
+            shelf.record.measures.layout = layout;
             (shelf.record.mode, shelf.record.next, shelf.record.listed) = (mode, listed, listed);
             for set in &sets {
                 shelf.record.failed = *set;
@@ -207,8 +213,8 @@ pub fn group(seed: u64) -> Outcome {
     let lists = stand.calls;
     all_members(&mut stand)?;
     Ok(format!(
-        "{lists} calls on all lists of two places, {} of which are sound; {} on every d, mode, set of failed members \
-         and call, with every member to fail; seed {seed}",
+        "{lists} calls on all lists of two places, {} of which are sound; {} on every layout, d, mode, set of failed \
+         members and call, with every member to fail; seed {seed}",
         2 * SOUND,
         stand.calls - lists
     ))

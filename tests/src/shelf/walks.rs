@@ -10,15 +10,21 @@ use super::pair::Pair;
 use super::stand::Stand;
 use crate::Outcome;
 
-/// The measures of the shelves: room in log and list for all, for some, and for next to nothing.
-const MEASURES: [[usize; 6]; 7] = [
-    [2, 1, 1, 3, 1, 2],
-    [2, 1, 1, 9, 2, 1],
-    [2, 2, 1, 4, 2, 4],
-    [2, 2, 1, 9, 1, 3],
-    [3, 1, 1, 5, 3, 3],
-    [3, 2, 1, 7, 2, 4],
-    [4, 1, 1, 6, 1, 4],
+/// The measures of the shelves: room in log and list for all, for some, and for next to nothing. Those whose parity
+/// rotates have as few stripes, or enough for a member to have data of one, P of another and Q of a third.
+const MEASURES: [[usize; 7]; 12] = [
+    [2, 1, 1, 3, 1, 2, 0],
+    [2, 1, 1, 9, 2, 1, 0],
+    [2, 2, 1, 4, 2, 4, 0],
+    [2, 2, 1, 9, 1, 3, 0],
+    [3, 1, 1, 5, 3, 3, 0],
+    [3, 2, 1, 7, 2, 4, 0],
+    [4, 1, 1, 6, 1, 4, 0],
+    [2, 2, 1, 4, 2, 4, 1],
+    [2, 3, 1, 9, 1, 3, 1],
+    [2, 5, 1, 6, 3, 4, 1],
+    [3, 1, 1, 5, 3, 3, 1],
+    [3, 3, 1, 7, 2, 4, 1],
 ];
 
 /// The most shelves of the same measures on which calls are made.
@@ -54,17 +60,6 @@ fn data(call: Call, book: &Book) -> Vec<u8> {
         Call::Write { address, count } => (address..address + count).map(value).collect(),
         Call::Read { count, .. } => vec![231; count],
         _ => Vec::new(),
-    }
-}
-
-/// Overwrites the failed members.
-fn spoil(pair: &mut Pair) {
-    let Record { measures: Measures { d, s, .. }, failed, .. } = pair.shelf.record;
-    for member in (0..d + 2).filter(|&member| failed[member] != 0) {
-        pair.shelf.array.bytes[member * s..][..s].fill(200 + member as u8);
-    }
-    if failed[d + 2] != 0 {
-        pair.shelf.log.bytes.fill(250);
     }
 }
 
@@ -106,8 +101,8 @@ impl Lists {
 }
 
 /// Walks the shelves of these measures; hands back how many were reached, and how often the same was listed again.
-fn walk([d, s, b, l, h, e]: [usize; 6], stand: &mut Stand) -> Result<[usize; 2], String> {
-    let m = Measures { d, s, b, l, h, e };
+fn walk([d, s, b, l, h, e, layout]: [usize; 7], stand: &mut Stand) -> Result<[usize; 2], String> {
+    let m = Measures { d, s, b, l, h, e, layout };
     let fresh = Pair::fresh(m, 99, stand)?;
     let mut reached = HashSet::from([key(&fresh)]);
     let mut lists = Lists::default();
@@ -121,7 +116,7 @@ fn walk([d, s, b, l, h, e]: [usize; 6], stand: &mut Stand) -> Result<[usize; 2],
             }
             next.holds()?;
             lists.take(&pair, &next)?;
-            spoil(&mut next);
+            next.spoil();
             if reached.len() < MOST && reached.insert(key(&next)) {
                 waiting.push_back(next);
             }
@@ -143,8 +138,8 @@ pub fn group(_seed: u64) -> Outcome {
         return Err(format!("the same was listed in {again} more ways, not 20"));
     }
     Ok(format!(
-        "{} calls, every one on each of {reached} shelves near fresh ones; each way of their work {least} times at \
-         least; the same was listed {again} times more at least, in the same bytes",
+        "{} calls, every one on each of {reached} shelves near fresh ones of both layouts; each way of their work \
+         {least} times at least; the same was listed {again} times more at least, in the same bytes",
         stand.calls
     ))
 }

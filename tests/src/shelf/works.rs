@@ -1,5 +1,6 @@
 //! What an accepted call on a shelf leaves, written anew from the text of each call, a block at a time.
 
+use std::collections::BTreeSet;
 use std::ops::Range;
 
 use super::calls::{Call, Measures, Record, Shelf};
@@ -7,7 +8,8 @@ use super::due::Due;
 use super::events::{Event, Events};
 use super::layout::{Entries, List};
 use super::model::NONE;
-use crate::model::{made, made_all, recovered};
+use super::roles;
+use crate::model::{made, recovered};
 
 /// What is due of a call that is answered with this number, and the ways in which its work is done.
 pub fn outcome(call: Call, shelf: &Shelf, code: usize) -> (Due, Events) {
@@ -89,14 +91,15 @@ impl Sight<'_> {
 
     /// What read gives of a block: its bytes, or from Cur, else from Ori, else worked back by parity.
     fn block(&self, address: usize, events: &mut Events) -> Vec<u8> {
-        let d = self.shelf.record.measures.d;
-        let entry = self.entries.get(&address);
-        if !self.is_failed(address % d) {
+        let m = self.shelf.record.measures;
+        let (stripe, entry) = (address / m.d, self.entries.get(&address));
+        let member = roles::members(m, stripe)[address % m.d];
+        if !self.is_failed(member) {
             events.add(Event::ReadSound, entry.is_none());
             events.add(Event::ReadSoundListed, entry.is_some());
-            return self.stored(address % d, address / d).to_vec();
+            return self.stored(member, stripe).to_vec();
         }
-        events.add(Event::ReadWithoutLog, self.is_failed(d + 2));
+        events.add(Event::ReadWithoutLog, self.is_failed(m.d + 2));
         events.add(Event::ReadCur, entry.is_some_and(|&[_, cur]| cur != NONE));
         events.add(Event::ReadOri, entry.is_some_and(|&[_, cur]| cur == NONE));
         match entry {
@@ -106,10 +109,11 @@ impl Sight<'_> {
         }
     }
 
-    /// The original of a stripe's member: a listed block's Ori, else its bytes if its disk is sound; else missing.
-    fn original(&self, member: usize, stripe: usize) -> Option<&[u8]> {
+    /// The original of a stripe's block, by its place in the stripe and its member: a listed block's Ori, else its
+    /// bytes if its member is sound; else missing.
+    fn original(&self, place: usize, member: usize, stripe: usize) -> Option<&[u8]> {
         let d = self.shelf.record.measures.d;
-        let entry = if member < d { self.entries.get(&(stripe * d + member)) } else { None };
+        let entry = if place < d { self.entries.get(&(stripe * d + place)) } else { None };
         match entry {
             Some(&[NONE, _]) => None,
             Some(&[ori, _]) => Some(self.logged(ori)),
@@ -118,15 +122,16 @@ impl Sight<'_> {
         }
     }
 
-    /// An unlisted block on a failed disk, worked back by parity from originals.
+    /// An unlisted block on a failed member, worked back by parity from originals.
     fn worked_back(&self, address: usize, events: &mut Events) -> Vec<u8> {
         let Measures { d, b, .. } = self.shelf.record.measures;
         let (stripe, x) = (address / d, address % d);
         let (mut row, mut y) = (vec![0; (d + 2) * b], x);
-        for member in (0..d + 2).filter(|&member| member != x) {
-            match self.original(member, stripe) {
-                Some(bytes) => row[member * b..][..b].copy_from_slice(bytes),
-                None => y = member,
+        let members = roles::members(self.shelf.record.measures, stripe);
+        for (place, member) in members.into_iter().enumerate().filter(|&(place, _)| place != x) {
+            match self.original(place, member, stripe) {
+                Some(bytes) => row[place * b..][..b].copy_from_slice(bytes),
+                None => y = place,
             }
         }
         events.add(Event::ReadByBoth, y != x && y < d);
@@ -198,19 +203,21 @@ impl Work {
 
     /// Makes P and Q of a stripe.
     fn make_parity(&mut self, stripe: usize) {
-        let Measures { d, b, .. } = self.m;
-        let row: Vec<u8> =
-            (0..d + 2).flat_map(|member| self.array[place(self.m, member, stripe)].iter().copied()).collect();
-        let row = made(d, b, &row);
-        for member in [d, d + 1] {
-            self.array[place(self.m, member, stripe)].copy_from_slice(&row[member * b..][..b]);
+        let (members, mut row) = (roles::members(self.m, stripe), Vec::new());
+        for &member in &members {
+            row.extend_from_slice(&self.array[place(self.m, member, stripe)]);
+        }
+        let row = made(self.m.d, self.m.b, &row);
+        for (&member, block) in members.iter().zip(row.chunks(self.m.b)).skip(self.m.d) {
+            self.array[place(self.m, member, stripe)].copy_from_slice(block);
         }
     }
 
     /// Drops a stripe's listed blocks. With the last one the log records become free, and mode 2 becomes 0.
     fn drop_listed(&mut self, stripe: usize) {
-        let addresses = self.addresses(stripe);
-        self.entries.retain(|address, _| !addresses.contains(address));
+        for address in self.addresses(stripe) {
+            self.entries.remove(&address);
+        }
         if self.entries.is_empty() {
             self.record.next = 0;
             if self.record.mode == 2 {
@@ -271,8 +278,9 @@ impl Work {
 
     /// The disks get a stripe's new blocks.
     fn put(&mut self, part: &Part) {
+        let members = roles::members(self.m, part.stripe);
         for (index, block) in part.written.clone().zip(part.data.chunks(self.m.b)) {
-            self.array[place(self.m, index, part.stripe)].copy_from_slice(block);
+            self.array[place(self.m, members[index], part.stripe)].copy_from_slice(block);
         }
     }
 
@@ -298,9 +306,9 @@ impl Work {
 
     /// Appends the pre-read values with Ori set, then the new ones with Cur set.
     fn log_part(&mut self, part: &Part, pre_read: &[usize]) {
-        let first = part.stripe * self.m.d;
+        let (first, members) = (part.stripe * self.m.d, roles::members(self.m, part.stripe));
         for &index in pre_read {
-            let block = self.array[place(self.m, index, part.stripe)].to_vec();
+            let block = self.array[place(self.m, members[index], part.stripe)].to_vec();
             let ori = self.append(&block);
             self.entries.insert(first + index, [ori, NONE]);
         }
@@ -326,35 +334,65 @@ impl Work {
         stripe
     }
 
-    /// Fills every failed data disk with what read would give; makes parity afresh if P or Q had failed.
+    /// Rebuilds each stripe. If the parity of one was made and the list ends empty, the mode becomes 0; else the mode
+    /// remains.
     fn rebuild(&mut self, shelf: &Shelf) {
-        let Measures { d, s, b, .. } = self.m;
-        let (sight, mut events) = (Sight::of(shelf), Events::default());
-        let is_listed = !self.entries.is_empty();
-        for disk in (0..d).filter(|&disk| sight.is_failed(disk)) {
-            self.events.add(if is_listed { Event::RebuildDataListed } else { Event::RebuildData }, true);
-            for stripe in 0..s {
-                let block = sight.block(stripe * d + disk, &mut events);
-                self.array[place(self.m, disk, stripe)].copy_from_slice(&block);
-            }
+        let (sight, before) = (Sight::of(shelf), self.entries.len());
+        let (mut filled, mut afresh) = (BTreeSet::new(), BTreeSet::new());
+        for stripe in 0..self.m.s {
+            filled.extend(self.fill(&sight, stripe));
+            afresh.extend(self.make_lost_parity(&sight, stripe));
         }
-        self.events.add(Event::RebuildWithoutLog, sight.is_failed(d + 2));
-        if sight.is_failed(d) || sight.is_failed(d + 1) {
-            self.events.add(if is_listed { Event::RebuildParityListed } else { Event::RebuildParity }, true);
-            self.array = made_all(d, s, b, &self.array);
-            self.entries.clear();
-            (self.record.mode, self.record.next) = (0, 0);
+        let (left, mode) = (self.entries.len(), shelf.record.mode);
+        if !afresh.is_empty() && left == 0 {
+            self.record.mode = 0;
         }
-        self.record.failed[..d + 2].fill(0);
+        self.record.failed[..self.m.d + 2].fill(0);
+        let events = &mut self.events;
+        events.add(Event::RebuildWithoutLog, sight.is_failed(self.m.d + 2));
+        events.add(Event::RebuildData, !filled.is_empty() && before == 0);
+        events.add(Event::RebuildDataListed, !filled.is_empty() && before > 0);
+        events.add(Event::RebuildParity, !afresh.is_empty() && before == 0);
+        events.add(Event::RebuildParityListed, !afresh.is_empty() && before > 0);
+        events.add(Event::RebuildDropsNone, before > 0 && left == before);
+        events.add(Event::RebuildDropsLast, before > 0 && left == 0);
+        events.add(Event::RebuildEndsAccelerating, mode == 1 && self.record.mode == 0);
+        events.add(Event::RebuildGoesOnAccelerating, mode == 1 && self.record.mode == 1 && left == 0);
+        events.add(Event::RebuildDropsSome, 0 < left && left < before);
+        events.add(Event::RebuildBothOfOne, !filled.is_disjoint(&afresh));
+    }
+
+    /// Fills the data blocks of a stripe that are on failed members with what read would give; hands back the members.
+    fn fill(&mut self, sight: &Sight, stripe: usize) -> Vec<usize> {
+        let lost = |&(_, member): &(usize, usize)| sight.is_failed(member);
+        let data = roles::members(self.m, stripe).into_iter().take(self.m.d).enumerate();
+        data.filter(lost)
+            .map(|(index, member)| {
+                let block = sight.block(stripe * self.m.d + index, &mut Events::default());
+                self.array[place(self.m, member, stripe)].copy_from_slice(&block);
+                member
+            })
+            .collect()
+    }
+
+    /// Makes P and Q of a stripe and drops its listed blocks, if one of the two was on a failed member; hands back the
+    /// failed members of the two.
+    fn make_lost_parity(&mut self, sight: &Sight, stripe: usize) -> Vec<usize> {
+        let parity = roles::members(self.m, stripe).into_iter().skip(self.m.d);
+        let lost: Vec<usize> = parity.filter(|&member| sight.is_failed(member)).collect();
+        if !lost.is_empty() {
+            self.make_parity(stripe);
+            self.drop_listed(stripe);
+        }
+        lost
     }
 
     /// Makes P and Q of every stripe, empties the list, and sets both counts and the mode to 0.
     fn full_resync(&mut self) {
-        let Measures { d, s, b, .. } = self.m;
         self.events.add(Event::FullResyncFresh, self.record.listed == 0);
         self.events.add(Event::FullResyncListed, self.record.listed > 0);
-        self.events.add(Event::FullResyncWithoutLog, self.record.failed[d + 2] != 0);
-        self.array = made_all(d, s, b, &self.array);
+        self.events.add(Event::FullResyncWithoutLog, self.record.failed[self.m.d + 2] != 0);
+        (0..self.m.s).for_each(|stripe| self.make_parity(stripe));
         (self.record.mode, self.record.next) = (0, 0);
     }
 }

@@ -7,7 +7,7 @@ use mathlib.Core.Option.{Option, none, some}
 use mathlib.Core.Path.{_≡_, refl, sym, ap, ap₂, _∙_, subst}
 use Prim.Native.Nat.{ℕ, _≤_, _<_}
 use native.Mathlib.Omega.{arith}
-use Rattle.stripe.proofs.Laws.{member-lt}
+use Rattle.stripe.proofs.Laws.{one-to-one}
 use lib.ListN.{length}
 use Rattle.shelf.specs.Counting.{count}
 use Rattle.shelf.specs.Members.{InRange, arrayMembers, logMember, allMembers, roleP, roleQ, memberAt, IsBlock, blank, blockP, blockQ}
@@ -78,7 +78,7 @@ positive Y = omega (arith, Y .d-least)
 pub all-sound : {g : Geometry} {s : State} {b : Book} → Nearly g s b → arrayFailed g (s .failed) ≡ false
     → (x i : ℕ) → x < g .s → i < g .d → s .disk x i ≡ b .held x i
 all-sound {g} {s} {b} A ok x i hx hi =
-    A .sound x i hx hi (any-none (arrayMembers g) (s .failed) ok (memberAt g x i) (member-lt (g .d) x i (omega arith)))
+    A .sound x i hx hi (any-none (arrayMembers g) (s .failed) ok (memberAt g x i) (one-to-one (g .layout) (g .d) x .within i (omega arith)))
 
 -- of the blocks held, only those within the geometry matter
 pub held-ext : (g : Geometry) (s : State) (b : Book) (h : ℕ → ℕ → List ℕ) → ((x i : ℕ) → x < g .s → i < g .d → h x i ≡ b .held x i)

@@ -1,28 +1,29 @@
 -- Start, fail, new log, full resync, resync and rebuild keep the agreement.
 -- Assumes nothing.
-use mathlib.Core.Bool.{Bool, true, false, _&&_, _||_}
+use mathlib.Core.Bool.{Bool, true, false, _&&_}
 use mathlib.Core.List.{List}
+use mathlib.Core.Logic.{inl, inr}
 use mathlib.Core.Path.{_≡_, refl, sym, ap, ap₂, _∙_, subst}
 use Prim.Native.Nat.{ℕ, _≤_, _<_}
 use native.Mathlib.Decide.{ℕ-discrete}
 use native.Mathlib.Omega.{arith}
 use lib.Dec.{eqb, ltb}
 use borrow.Author.Tests.{eq-eqb, lt-ltb, le-ltb, eqb-true, eqb-false}
-use Rattle.stripe.proofs.Laws.{member-lt}
+use Rattle.stripe.proofs.Laws.{one-to-one}
 use Rattle.shelf.specs.Counting.{choose, bit, count, any, setAt}
 use Rattle.shelf.specs.Members.{InRange, arrayMembers, logMember, allMembers, roleP, roleQ, memberAt, IsBlock}
-use Rattle.shelf.specs.State.{State, isSome, listed, stale, marksIn, lowestStale}
-use Rattle.shelf.specs.Status.{start, fail, resync, rebuild, newLog, fullResync, logFailed}
-use Rattle.shelf.specs.Calls.{inMode, nextLeft, modeLeft, settled, made, remade, resynced, blockAt, parityFailed, arrayCleared, rebuilt, modeWithout, work, code}
+use Rattle.shelf.specs.State.{Log, State, isSome, listed, stale, marksIn, lowestStale}
+use Rattle.shelf.specs.Status.{start, fail, resync, rebuild, newLog, fullResync}
+use Rattle.shelf.specs.Calls.{inMode, nextLeft, modeLeft, settled, made, remade, resynced, blockAt, parityFailed, arrayCleared, dropped, modeRebuilt, rebuilt, modeWithout, work, code}
 use Rattle.shelf.specs.Book.{Marks, Book, closed, bookWork}
 use Rattle.shelf.specs.declared.record.Geometry.{Geometry}
 use Rattle.shelf.proofs.general.CountLaws.{setAt-here, setAt-same, setAt-other, setRow-other, first-ext, any-none, count-mono, count-at, first-found, first-none}
-use Rattle.shelf.proofs.general.TestLaws.{cases, clash, or-left, or-right, and-false, choose-true, choose-false}
-use Rattle.shelf.proofs.agreement.ListedLaws.{never-some, unlisted, marksIn-ext, stale-ext, marks-none, none-marks, no-marks}
+use Rattle.shelf.proofs.general.TestLaws.{cases, clash, or-left, or-right, and-right, and-false, choose-true, choose-false}
+use Rattle.shelf.proofs.agreement.ListedLaws.{never-some, unlisted, dropped-listed, marksIn-ext, stale-ext, marks-none, none-marks, no-marks}
 use Rattle.shelf.proofs.agreement.Agreement.{Nearly, Valid, Agrees, all-sound}
 use Rattle.shelf.proofs.agreement.StatusLaws.{start-passed, fail-passed, resync-passed, rebuild-passed, newLog-passed, fullResync-passed}
 use Rattle.shelf.proofs.agreement.ReadLaws.{block-exact}
-use Rattle.shelf.proofs.agreement.SettleLaws.{settled-agrees, closed-already, made-agrees}
+use Rattle.shelf.proofs.agreement.SettleLaws.{settled-agrees, closed-already, afresh-agrees, made-agrees}
 
 -- ---- the mode when the log fails: t where it does so in mode 1, n blocks being listed
 
@@ -251,7 +252,7 @@ module _ (g : Geometry) (s : State) (b : Book) (A : Agrees g s b) where
       -- a stripe's members are none of them the log
       before : (x i : ℕ) → i < arrayMembers g → setAt (logMember g) false (s .failed) (memberAt g x i) ≡ false → s .failed (memberAt g x i) ≡ false
       before x i h f =
-          sym (setAt-other (logMember g) false (s .failed) (memberAt g x i) (λ e. omega (arith, member-lt (g .d) x i h))) ∙ f
+          sym (setAt-other (logMember g) false (s .failed) (memberAt g x i) (λ e. omega (arith, one-to-one (g .layout) (g .d) x .within i h))) ∙ f
 
   -- ---- full resync
 
@@ -352,7 +353,7 @@ module _ (g : Geometry) (s : State) (b : Book) (A : Agrees g s b) where
       some-stale w =
           let l : low < g .s = first-found (g .s) _ w .0 in
           let M : Agrees g (made g (inMode s 2) low (s .disk low)) (without low) =
-          made-agrees g (inMode s 2) _ (near2 (b .state .marks) (N .marks)) valid2 low l (s .disk low) (b .held) (N .helds)
+          made-agrees g (inMode s 2) _ (near2 (b .state .marks) (N .marks)) valid2 low (s .disk low) (b .held) (N .helds)
           (λ i hi. all-sound N (resync-passed g s z) low i l hi) (λ x _ i. refl) in
           rw (choose-true (ltb low (g .s)) (made g (inMode s 2) low (s .disk low)) (inMode s 0) (lt-ltb low (g .s) l))
           (subst (λ (t : ℕ). Agrees g (made g (inMode s 2) low (s .disk low)) (without t)) same M)
@@ -375,84 +376,29 @@ module _ (g : Geometry) (Y : InRange g) (s : State) (b : Book) (A : Agrees g s b
   refill-exact z x i hx hi = block-exact g Y s b (A .near) x hx i hi (rebuild-passed g s z x i hx hi)
 
   pub rebuild-keeps : code g rebuild s ≡ 0 → Agrees g (work g rebuild s) (bookWork g rebuild b)
-  unfolding work bookWork rebuilt
+  unfolding work bookWork rebuilt choose
   rebuild-keeps z =
-      subst (λ (f : ℕ → Bool). Agrees g (rebuilt g s) (cleared f)) (A .near .failed) (cases (parityFailed g (s .failed)) parity-lost parity-sound)
+      afresh-agrees g s b (A .near) (A .valid) lost (blockAt g s) (b .held) (A .near .helds)
+      (λ x i hx hi _. refill-exact z x i hx hi) (λ x _ i. refl)
+      (λ i e. cases (ltb i (arrayMembers g)) (λ t. clash e (simp t)) (λ t. simp t at e))
+      (λ e. simp (le-ltb (logMember g) (arrayMembers g) (omega arith)) at e)
+      (λ x t _. or-left (s .failed (memberAt g x (roleP g))) (s .failed (memberAt g x (roleQ g))) t)
+      (λ x t _. or-right (s .failed (memberAt g x (roleP g))) (s .failed (memberAt g x (roleQ g))) t)
+      same-marks (ap (arrayCleared g) (A .near .failed))
+      (λ i. modeRebuilt (any (g .s) (parityFailed g (A .near .failed i))) (marksIn-ext g (listed left) _ same-marks i) (A .near .mode i))
+      (cases ends
+      (λ t. inr (simp t, eqb-true _ _ (and-right (any (g .s) lost) (eqb (marksIn g (listed left)) 0) t)))
+      (λ t. inl (simp t)))
     where
-      refilling : State
-      refilling =
-          record { disk = blockAt g s; p = s .p; q = s .q; log = s .log; mode = s .mode; failed = arrayCleared g (s .failed) }
+      lost : ℕ → Bool
+      lost = parityFailed g (s .failed)
 
-      -- the book with its array members sound
-      cleared : (ℕ → Bool) → Book
-      cleared f =
-          record {
-            held = b .held;
-            failed = arrayCleared g f;
-            state = choose (parityFailed g f) (closed g (record { marks = λ _ _. false; used = b .state .used; mode = 0 })) (b .state);
-          }
+      left : Log
+      left = dropped (s .log) (parityFailed g (s .failed))
 
-      fewer : count (allMembers g) (arrayCleared g (s .failed)) ≤ 2
-      fewer =
-          omega (
-            arith,
-            A .near .two,
-            count-mono (allMembers g) (arrayCleared g (s .failed)) (s .failed) (λ i _ e.
-                cases (ltb i (arrayMembers g))
-                (λ t. clash e (choose-true (ltb i (arrayMembers g)) false (s .failed i) t))
-                (λ t. sym (choose-false (ltb i (arrayMembers g)) false (s .failed i) t) ∙ e)),
-          )
+      same-marks : (x i : ℕ) → x < g .s → i < g .d → listed left x i ≡ choose (parityFailed g (b .failed) x) false (b .state .marks x i)
+      same-marks x i hx hi = dropped-listed (s .log) lost x i ∙ (λ j. choose (parityFailed g (A .near .failed j) x) false (A .near .marks x i hx hi j))
 
-      above : (i : ℕ) → arrayMembers g ≤ i → arrayCleared g (s .failed) i ≡ s .failed i
-      above i h = choose-false (ltb i (arrayMembers g)) false (s .failed i) (le-ltb i (arrayMembers g) h)
-
-      same-log : logFailed g (arrayCleared g (s .failed)) ≡ logFailed g (s .failed)
-      same-log = above (logMember g) (omega arith)
-
-      top : (i : ℕ) → allMembers g ≤ i → arrayCleared g (s .failed) i ≡ false
-      top i h = above i (omega arith) ∙ A .valid .top i h
-
-      parity-lost : parityFailed g (s .failed) ≡ true → Agrees g (rebuilt g s) (cleared (s .failed))
-      parity-lost t =
-          rw (
-            choose-true (parityFailed g (s .failed)) (remade g s (blockAt g s) (arrayCleared g (s .failed))) refilling t,
-            choose-true (parityFailed g (s .failed)) (closed g (record { marks = λ _ _. false; used = b .state .used; mode = 0 })) (b .state) t,
-          )
-          (remade-keeps g s b A (blockAt g s) (refill-exact z) (arrayCleared g (s .failed)) fewer top)
-
-      parity-sound : parityFailed g (s .failed) ≡ false → Agrees g (rebuilt g s) (cleared (s .failed))
-      parity-sound t =
-          rw (
-            choose-false (parityFailed g (s .failed)) (remade g s (blockAt g s) (arrayCleared g (s .failed))) refilling t,
-            choose-false (parityFailed g (s .failed)) (closed g (record { marks = λ _ _. false; used = b .state .used; mode = 0 })) (b .state) t,
-          )
-          (record {
-            near =
-                record {
-                  mode = A .near .mode;
-                  next = A .near .next;
-                  failed = refl;
-                  marks = A .near .marks;
-                  sound = λ x i hx hi _. refill-exact z x i hx hi;
-                  helds = A .near .helds;
-                  orig = A .near .orig;
-                  origs = A .near .origs;
-                  noted =
-                      record {
-                        plain = A .near .noted .plain;
-                        oris = λ x i hx hi r e. let w = A .near .noted .oris x i hx hi r e in (w .0, λ l. w .1 (sym same-log ∙ l));
-                        curs = λ x i hx hi r e. let w = A .near .noted .curs x i hx hi r e in (w .0, λ l. w .1 (sym same-log ∙ l));
-                      };
-                  p = λ x hx _. A .near .p x hx (or-left (s .failed (memberAt g x (roleP g))) (s .failed (memberAt g x (roleQ g))) (both x hx));
-                  q = λ x hx _. A .near .q x hx (or-right (s .failed (memberAt g x (roleP g))) (s .failed (memberAt g x (roleQ g))) (both x hx));
-                  whole = A .near .whole;
-                  two = fewer;
-                  one = λ e. same-log ∙ A .near .one e;
-                };
-            valid = record { room = A .valid .room; fits = A .valid .fits; modes = A .valid .modes; zero = A .valid .zero; top = top };
-            idle = A .idle;
-          })
-        where
-          -- a stripe's P and Q are sound
-          both : (x : ℕ) → x < g .s → (s .failed (memberAt g x (roleP g)) || s .failed (memberAt g x (roleQ g))) ≡ false
-          both = any-none (g .s) (λ x. s .failed (memberAt g x (roleP g)) || s .failed (memberAt g x (roleQ g))) t
+      -- the mode becomes 0
+      ends : Bool
+      ends = any (g .s) (parityFailed g (s .failed)) && eqb (marksIn g (listed left)) 0

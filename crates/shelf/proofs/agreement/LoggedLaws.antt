@@ -421,4 +421,4 @@ module _ (g : Geometry) (s : State) (b : Book) (A : Agrees g s b) (ok : arrayFai
       (λ y.
       let y' = sym (logs-same g s b N t ht w) ∙ y in
       rw (choose-false (logs g s t w) (logged g s t w v) (made g s t (overwritten w v (s .disk t))) y, choose-false _ _ _ y')
-      (made-agrees g s b N (A .valid) t ht (overwritten w v (s .disk t)) held proper row-held there))
+      (made-agrees g s b N (A .valid) t (overwritten w v (s .disk t)) held proper row-held there))

@@ -10,7 +10,7 @@ use native.Mathlib.Nat.{mod-lt}
 use native.Mathlib.Omega.{arith}
 use lib.Dec.{eqb, ltb}
 use borrow.Author.Tests.{eq-eqb, ne-eqb, lt-ltb, le-ltb}
-use Rattle.stripe.proofs.Laws.{member-lt, member-inj}
+use Rattle.stripe.proofs.Laws.{one-to-one}
 use Rattle.shelf.specs.Counting.{choose, count}
 use Rattle.shelf.specs.Members.{InRange, arrayMembers, allMembers, roleP, memberAt, blockP, blockQ, workedBack}
 use Rattle.shelf.specs.State.{State, isSome, listed, stale}
@@ -54,7 +54,7 @@ module _ (g : Geometry) (s : State) (x : ℕ) (have : (j : ℕ) → j < g .d →
 
   pub few-missing : count (arrayMembers g) (s .failed) ≤ 2 → (i j l : ℕ) → i < j → j < l → l < g .d + 2 → missing g s x i ≡ true → missing g s x j ≡ true → missing g s x l ≡ true → ⊥
   few-missing two i j l ij jl ln ei ej el =
-      no-three-roles (arrayMembers g) (s .failed) (memberAt g x) (member-lt (g .d) x) (member-inj (g .d) x) two i j l ij jl ln
+      no-three-roles (arrayMembers g) (s .failed) (memberAt g x) (one-to-one (g .layout) (g .d) x .within) (one-to-one (g .layout) (g .d) x .own) two i j l ij jl ln
       (missing-failed i ei) (missing-failed j ej) (missing-failed l el)
 
 module _ (g : Geometry) (Y : InRange g) (s : State) (b : Book) (A : Nearly g s b) (x : ℕ) (hx : x < g .s) where

@@ -1,24 +1,24 @@
--- Laws of dropping blocks from the list: what happens when the last one goes, and one stripe whose parity is made afresh.
+-- Laws of dropping blocks from the list: what happens when the last one goes, and stripes whose parity is made afresh.
 -- Assumes nothing.
 use mathlib.Core.Bool.{Bool, true, false, _&&_}
 use mathlib.Core.List.{List}
-use mathlib.Core.Path.{_≡_, sym, ap, ap₂, _∙_}
-use Prim.Native.Nat.{ℕ, _≤_, _<_}
-use native.Mathlib.Decide.{ℕ-discrete}
+use mathlib.Core.Logic.{_⊎_, inl, inr, ⊎-elim}
+use mathlib.Core.Path.{_≡_, refl, sym, ap, ap₂, _∙_}
+use Prim.Native.Nat.{ℕ, _<_}
 use native.Mathlib.Omega.{arith}
 use lib.Dec.{eqb}
 use borrow.Author.Tests.{eq-eqb, eqb-true, eqb-false}
-use Rattle.shelf.specs.Counting.{setAt}
-use Rattle.shelf.specs.Members.{blockP, blockQ}
+use Rattle.shelf.specs.Counting.{choose, setAt}
+use Rattle.shelf.specs.Members.{logMember, allMembers, roleP, roleQ, memberAt}
 use Rattle.shelf.specs.State.{State, isSome, listed, marksIn}
 use Rattle.shelf.specs.Status.{row}
-use Rattle.shelf.specs.Calls.{nextLeft, modeLeft, settled, dropped, made}
-use Rattle.shelf.specs.Book.{Marks, Book, closed}
+use Rattle.shelf.specs.Calls.{inMode, withFlags, nextLeft, modeLeft, settled, dropped, afresh, made}
+use Rattle.shelf.specs.Book.{Book, closed}
 use Rattle.shelf.specs.declared.record.Geometry.{Geometry}
-use Rattle.shelf.proofs.general.CountLaws.{setAt-here, setAt-other, setRow-here, setRow-other, count-mono, total-mono}
-use Rattle.shelf.proofs.general.TestLaws.{cases, clash, and-left, and-right, choose-true, choose-false}
+use Rattle.shelf.proofs.general.CountLaws.{count-mono}
+use Rattle.shelf.proofs.general.TestLaws.{cases, clash, false-is, and-left, and-right, choose-true, choose-false}
 use Rattle.shelf.proofs.agreement.RowParity.{blockP-ext, blockQ-ext}
-use Rattle.shelf.proofs.agreement.ListedLaws.{never-some, ori-listed, cur-listed, marksIn-ext, marks-none}
+use Rattle.shelf.proofs.agreement.ListedLaws.{never-some, ori-listed, cur-listed, marksIn-ext, marks-none, dropped-fewer}
 use Rattle.shelf.proofs.agreement.Agreement.{AreBlocks, Nearly, Valid, Agrees}
 
 -- ---- when nothing is left listed
@@ -126,92 +126,85 @@ closed-already g s b A = λ i. record { marks = b .state .marks; used = e i; mod
         absurd (A .idle (same ∙ u) .1 (A .near .mode ∙ v)))
         (λ z. choose-false (eqb (marksIn g (b .state .marks)) 0 && eqb (b .state .mode) 2) 0 (b .state .mode) z)
 
--- ---- stripe t made of a row that the new book holds there
+-- ---- P and Q made afresh in the stripes that pass the test t
 
-module _ (g : Geometry) (s : State) (b : Book) (A : Nearly g s b) (W : Valid g s)
-    (t : ℕ) (ht : t < g .s) (row : ℕ → List ℕ) (held : ℕ → ℕ → List ℕ) (proper : AreBlocks g held)
-    (here : (i : ℕ) → i < g .d → row i ≡ held t i) (there : (x : ℕ) → (x ≡ t → ⊥) → (i : ℕ) → held x i ≡ b .held x i) where
-  -- no more blocks are listed
-  fewer : marksIn g (listed (dropped (s .log) t)) ≤ marksIn g (listed (s .log))
-  unfolding isSome
-  fewer =
-      total-mono (g .s) _ _ (λ x _. count-mono (g .d) _ _ (λ i _ l.
-      elim (ℕ-discrete x t) [ yes e ↦ clash l (simp setRow-here) | no e ↦ simp setRow-other at l ]))
+-- With new disks, blocks held, flags f and mode. The disks of those stripes and all sound disks hold what is held, which in the other stripes is as it
+-- was. No member fails; the log, and P and Q of the other stripes, are sound only where they were. The mode is as it was, or 0 where nothing is left
+-- listed.
+module _ (g : Geometry) (s : State) (b : Book) (A : Nearly g s b) (W : Valid g s) (t : ℕ → Bool) (disk held : ℕ → ℕ → List ℕ) (proper : AreBlocks g held)
+    {mode mode' : ℕ} {f f' : ℕ → Bool} {marks : ℕ → ℕ → Bool}
+    (exact : (x i : ℕ) → x < g .s → i < g .d → (t x ≡ true) ⊎ (f (memberAt g x i) ≡ false) → disk x i ≡ held x i)
+    (kept : (x : ℕ) → t x ≡ false → (i : ℕ) → held x i ≡ b .held x i)
+    (fewer : (i : ℕ) → f i ≡ true → s .failed i ≡ true) (log-was : f (logMember g) ≡ false → s .failed (logMember g) ≡ false)
+    (p-was : (x : ℕ) → t x ≡ false → f (memberAt g x (roleP g)) ≡ false → s .failed (memberAt g x (roleP g)) ≡ false)
+    (q-was : (x : ℕ) → t x ≡ false → f (memberAt g x (roleQ g)) ≡ false → s .failed (memberAt g x (roleQ g)) ≡ false)
+    (same-marks : (x i : ℕ) → x < g .s → i < g .d → listed (dropped (s .log) t) x i ≡ marks x i) (same-flags : f ≡ f') (same-mode : mode ≡ mode')
+    (ends : (mode ≡ s .mode) ⊎ ((mode ≡ 0) × (marksIn g (listed (dropped (s .log) t)) ≡ 0))) where
+  -- a member that was sound is
+  still : (i : ℕ) → s .failed i ≡ false → f i ≡ false
+  still i e = false-is (f i) (λ u. clash (fewer i u) e)
 
-  -- the book's marks without those of the stripe
-  abbrev without : Marks
-  without = record { marks = setAt t (λ _. false) (b .state .marks); used = b .state .used; mode = b .state .mode }
-
-  pub made-agrees : Agrees g (made g s t row) (record { held = held; failed = b .failed; state = closed g without })
-  unfolding made isSome
-  made-agrees =
-      settled-agrees g
+  pub afresh-agrees : Agrees g (settled g (withFlags (inMode (afresh g s t disk) mode) f))
+      (closedBook g (record { held = held; failed = f'; state = record { marks = marks; used = b .state .used; mode = mode' } }))
+  unfolding choose isSome
+  afresh-agrees =
+      settled-agrees g _ _
       (record {
-        disk = setAt t row (s .disk);
-        p = setAt t (blockP g row) (s .p);
-        q = setAt t (blockQ g row) (s .q);
-        log = dropped (s .log) t;
-        mode = s .mode;
-        failed = s .failed;
-      })
-      (record { held = held; failed = b .failed; state = without })
-      (record {
-        mode = A .mode;
+        mode = same-mode;
         next = A .next;
-        failed = A .failed;
-        marks = λ x i hx hi.
-            elim (ℕ-discrete x t) [
-              | yes e ↦ simp setRow-here
-              | no e ↦ simp setRow-other (A .marks x i hx hi)
-            ];
-        sound = λ x i hx hi f.
-            elim (ℕ-discrete x t) [
-              | yes e ↦ simp setRow-here (here i hi ∙ ap (λ (z : ℕ). held z i) (sym e))
-              | no e ↦ simp setRow-other (A .sound x i hx hi f ∙ sym (there x e i))
-            ];
+        failed = same-flags;
+        marks = same-marks;
+        sound = λ x i hx hi u. exact x i hx hi (inr u);
         helds = proper;
-        orig = setAt t (held t) (A .orig);
-        origs = λ x i hx hi.
-            elim (ℕ-discrete x t) [
-              | yes e ↦ simp setRow-here (proper t i ht hi)
-              | no e ↦ simp setRow-other (A .origs x i hx hi)
-            ];
+        orig = λ x i. choose (t x) (held x i) (A .orig x i);
+        origs = λ x i hx hi. cases (t x) (λ e. simp e (proper x i hx hi)) (λ e. simp e (A .origs x i hx hi));
         noted =
             record {
-              plain = λ x i hx hi c.
-                  elim (ℕ-discrete x t) [
-                    | yes e ↦ simp setRow-here (ap (λ (z : ℕ). held z i) (sym e))
-                    | no e ↦ simp setRow-other (A .noted .plain x i hx hi (simp setRow-other at c) ∙ sym (there x e i))
-                  ];
+              plain = λ x i hx hi c. cases (t x) (λ e. simp e) (λ e. simp e (A .noted .plain x i hx hi (simp e at c) ∙ sym (kept x e i)));
               oris = λ x i hx hi r c.
-                  elim (ℕ-discrete x t) [
-                    | yes e ↦ absurd (never-some (simp setRow-here at c))
-                    | no e ↦ simp setRow-other (A .noted .oris x i hx hi r (simp setRow-other at c))
-                  ];
+                  cases (t x)
+                  (λ e. absurd (never-some (simp e at c)))
+                  (λ e. let w = A .noted .oris x i hx hi r (simp e at c) in (w .0, λ l. simp e (w .1 (log-was l))));
               curs = λ x i hx hi r c.
-                  elim (ℕ-discrete x t) [
-                    | yes e ↦ absurd (never-some (simp setRow-here at c))
-                    | no e ↦ simp (there x e i) (A .noted .curs x i hx hi r (simp setRow-other at c))
-                  ];
+                  cases (t x)
+                  (λ e. absurd (never-some (simp e at c)))
+                  (λ e. let w = A .noted .curs x i hx hi r (simp e at c) in (w .0, λ l. w .1 (log-was l) ∙ sym (kept x e i)));
             };
-        p = λ x hx f.
-            elim (ℕ-discrete x t)
-            [ yes e ↦ simp setAt-here (blockP-ext g row (held t) here) | no e ↦ simp setAt-other (A .p x hx f) ];
-        q = λ x hx f.
-            elim (ℕ-discrete x t)
-            [ yes e ↦ simp setAt-here (blockQ-ext g row (held t) here) | no e ↦ simp setAt-other (A .q x hx f) ];
+        p = λ x hx u.
+            cases (t x)
+            (λ e. simp e (blockP-ext g (disk x) (held x) (λ i hi. exact x i hx hi (inl e))))
+            (λ e. simp e (A .p x hx (p-was x e u)));
+        q = λ x hx u.
+            cases (t x)
+            (λ e. simp e (blockQ-ext g (disk x) (held x) (λ i hi. exact x i hx hi (inl e))))
+            (λ e. simp e (A .q x hx (q-was x e u)));
         whole = λ x i j hx hi hj o l.
-            elim (ℕ-discrete x t) [
-              | yes e ↦ clash l (simp setRow-here)
-              | no e ↦ simp setRow-other (A .whole x i j hx hi hj (simp setRow-other at o) (simp setRow-other at l))
-            ];
-        two = A .two;
-        one = A .one;
+            cases (t x) (λ e. clash l (simp e)) (λ e. simp e (A .whole x i j hx hi hj (simp e at o) (simp e at l)));
+        two = omega (arith, A .two, count-mono (allMembers g) f (s .failed) (λ i _. fewer i));
+        one = λ e. still (logMember g) (A .one (⊎-elim (λ q. sym q ∙ e) (λ z. absurd (omega (arith, z .0, e))) ends));
       })
       (record {
         room = W .room;
-        fits = omega (arith, W .fits, fewer);
-        modes = W .modes;
-        zero = λ e. omega (arith, W .zero e, fewer);
-        top = W .top;
+        fits = omega (arith, W .fits, dropped-fewer g (s .log) t);
+        modes = ⊎-elim (λ q. omega (arith, W .modes, q)) (λ z. omega (arith, z .0)) ends;
+        zero = λ e. ⊎-elim (λ q. omega (arith, W .zero (sym q ∙ e), dropped-fewer g (s .log) t)) (λ z. z .1) ends;
+        top = λ i h. still i (W .top i h);
       })
+
+-- stripe t made of a row that the new book holds there
+module _ (g : Geometry) (s : State) (b : Book) (A : Nearly g s b) (W : Valid g s) (t : ℕ) (row : ℕ → List ℕ) (held : ℕ → ℕ → List ℕ) (proper : AreBlocks g held)
+    (here : (i : ℕ) → i < g .d → row i ≡ held t i) (there : (x : ℕ) → (x ≡ t → ⊥) → (i : ℕ) → held x i ≡ b .held x i) where
+  pub made-agrees : Agrees g (made g s t row) (closedBook g (record {
+    held = held;
+    failed = b .failed;
+    state = record { marks = setAt t (λ _. false) (b .state .marks); used = b .state .used; mode = b .state .mode };
+  }))
+  unfolding made choose setAt isSome
+  made-agrees =
+      afresh-agrees g s b A W (λ x. eqb x t) (setAt t row (s .disk)) held proper
+      (λ x i hx hi o.
+      cases (eqb x t)
+      (λ e. simp e (here i hi ∙ ap (λ (z : ℕ). held z i) (sym (eqb-true x t e))))
+      (λ e. simp e (A .sound x i hx hi (⊎-elim (λ y. clash y e) (λ u. u) o) ∙ sym (there x (eqb-false x t e) i))))
+      (λ x e. there x (eqb-false x t e)) (λ i e. e) (λ e. e) (λ x _ e. e) (λ x _ e. e)
+      (λ x i hx hi. cases (eqb x t) (λ e. simp e) (λ e. simp e (A .marks x i hx hi))) (A .failed) (A .mode) (inl refl)

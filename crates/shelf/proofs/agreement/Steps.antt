@@ -1,7 +1,7 @@
 -- What one call keeps and gives, for the claim over sequences of calls: the number is the book's, an accepted call keeps the agreement, and what a
 -- read serves or a rebuild stores is what the book holds.
 -- Assumes nothing.
-use mathlib.Core.Path.{_≡_, sym, ap, _∙_}
+use mathlib.Core.Path.{_≡_, refl, sym, ap, _∙_}
 use Prim.Native.Nat.{ℕ, _+_, _/_, _%_, _<_}
 use native.Mathlib.Decide.{ℕ-discrete}
 use lib.Dec.{eqb}
@@ -9,11 +9,11 @@ use borrow.Author.Tests.{eq-eqb, ne-eqb}
 use Rattle.shelf.specs.Members.{InRange}
 use Rattle.shelf.specs.State.{State}
 use Rattle.shelf.specs.Status.{Call, start, fail, write, read, resync, rebuild, newLog, fullResync}
-use Rattle.shelf.specs.Calls.{remade, served, blockAt, parityFailed, rebuilt, work, code, after}
+use Rattle.shelf.specs.Calls.{settled, served, blockAt, rebuilt, work, code, after}
 use Rattle.shelf.specs.Book.{Book, bookWork, bookCode, bookAfter}
 use Rattle.shelf.specs.Sequence.{Fed}
 use Rattle.shelf.specs.declared.record.Geometry.{Geometry}
-use Rattle.shelf.proofs.general.TestLaws.{cases, choose-true, choose-false}
+use Rattle.shelf.proofs.general.TestLaws.{choose-true, choose-false}
 use Rattle.shelf.proofs.agreement.Agreement.{Agrees}
 use Rattle.shelf.proofs.agreement.StatusLaws.{nearly-says}
 use Rattle.shelf.proofs.agreement.ReadLaws.{nearly-read}
@@ -38,13 +38,10 @@ pub book-refused : (g : Geometry) (c : Call) (b : Book) → (bookCode g c b ≡ 
 unfolding bookAfter
 book-refused g c b z = choose-false (eqb (bookCode g c b) 0) (bookWork g c b) b (ne-eqb (bookCode g c b) 0 z)
 
--- rebuilt disks, with parity made afresh or not
+-- rebuilt disks
 rebuilt-disk : (g : Geometry) (s : State) (x i : ℕ) → work g rebuild s .disk x i ≡ blockAt g s x i
-unfolding work rebuilt remade
-rebuilt-disk g s x i =
-    cases (parityFailed g (s .failed))
-    (λ t. ap (λ (r : State). r .disk x i) (choose-true (parityFailed g (s .failed)) _ _ t))
-    (λ t. ap (λ (r : State). r .disk x i) (choose-false (parityFailed g (s .failed)) _ _ t))
+unfolding work rebuilt settled
+rebuilt-disk g s x i = refl
 
 -- ---- one call
 

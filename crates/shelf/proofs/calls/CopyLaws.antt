@@ -11,8 +11,9 @@ use native.Mathlib.Numerals.{add-one}
 use native.Mathlib.Omega.{arith}
 use lib.ListN.{length}
 use Rattle.stripe.specs.Blocks.{block, put}
-use Rattle.stripe.specs.Places.{place, numbered, Tabled}
+use Rattle.stripe.specs.Places.{numbered, Tabled}
 use Rattle.stripe.proofs.Laws.{fits, length-block, length-put, block-put-same, block-put-other, place-lt, place-inj, place-other}
+use Rattle.shelf.specs.Members.{placeAt}
 use Rattle.shelf.specs.Counting.{choose}
 use Rattle.shelf.specs.Lent.{arrayBlock, arrayLength}
 use Rattle.shelf.specs.Writing.{tested, copied, Within, Shared, newStored}
@@ -120,13 +121,13 @@ module _ (d : ℕ) (w : ℕ → Bool) (from to : ℕ → ℕ) (b : ℕ) (src dst
 
 -- they lie within it
 pub places-within : (g : Geometry) (t : ℕ) (w : ℕ → Bool) (a : List ℕ) → t < g .s → length a ≡ arrayLength g
-    → Within (g .d) w (place (g .d) (g .s) t) (g .b) (length a)
+    → Within (g .d) w (placeAt g t) (g .b) (length a)
 places-within g t w a ht long i h e =
-    fits (place (g .d) (g .s) t i) ((g .d + 2) * g .s) (g .b) a long (place-lt (g .d) (g .s) t i ht (omega arith))
+    fits (placeAt g t i) ((g .d + 2) * g .s) (g .b) a long (place-lt (g .layout) (g .d) (g .s) t i ht (omega arith))
 
 -- by a table of their numbers
-module _ (g : Geometry) (t : ℕ) (w : ℕ → Bool) (ns : List ℕ) (T : Tabled (g .d + 2) (place (g .d) (g .s) t) ns) where
-  number-is : (i : ℕ) → i < g .d → numbered ns i ≡ place (g .d) (g .s) t i
+module _ (g : Geometry) (t : ℕ) (w : ℕ → Bool) (ns : List ℕ) (T : Tabled (g .d + 2) (placeAt g t) ns) where
+  number-is : (i : ℕ) → i < g .d → numbered ns i ≡ placeAt g t i
   unfolding numbered
   number-is i h = T i (omega arith)
 
@@ -135,44 +136,44 @@ module _ (g : Geometry) (t : ℕ) (w : ℕ → Bool) (ns : List ℕ) (T : Tabled
       subst (λ (k : ℕ). k * g .b + g .b ≤ length a) (sym (number-is i h)) (places-within g t w a ht long i h e)
 
   pub copied-from : (to : ℕ → ℕ) (src dst : List ℕ)
-      → copied (g .d) w (numbered ns) to (g .b) src dst ≡ copied (g .d) w (place (g .d) (g .s) t) to (g .b) src dst
+      → copied (g .d) w (numbered ns) to (g .b) src dst ≡ copied (g .d) w (placeAt g t) to (g .b) src dst
   copied-from to src dst =
-      copied-ext (g .d) w w (numbered ns) (place (g .d) (g .s) t) to to (g .b) src dst (λ i h. refl) (λ i h e. number-is i h) (λ i h e. refl)
+      copied-ext (g .d) w w (numbered ns) (placeAt g t) to to (g .b) src dst (λ i h. refl) (λ i h e. number-is i h) (λ i h e. refl)
 
   pub copied-to : (from : ℕ → ℕ) (src dst : List ℕ)
-      → copied (g .d) w from (numbered ns) (g .b) src dst ≡ copied (g .d) w from (place (g .d) (g .s) t) (g .b) src dst
+      → copied (g .d) w from (numbered ns) (g .b) src dst ≡ copied (g .d) w from (placeAt g t) (g .b) src dst
   copied-to from src dst =
-      copied-ext (g .d) w w from from (numbered ns) (place (g .d) (g .s) t) (g .b) src dst (λ i h. refl) (λ i h e. refl) (λ i h e. number-is i h)
+      copied-ext (g .d) w w from from (numbered ns) (placeAt g t) (g .b) src dst (λ i h. refl) (λ i h e. refl) (λ i h e. number-is i h)
 
 -- the new blocks of stripe t put in: a data block of the stripe is the new one where one is written, and every other block stays
 module _ (g : Geometry) (t : ℕ) (p : Share) (w : ℕ → Bool) (v : ℕ → List ℕ) (from a : List ℕ) (ht : t < g .s) (S : Shared g w v from p)
     (long : length a ≡ arrayLength g) where
-  by-share : newStored g t p from a ≡ copied (g .d) w (numbered (p .from)) (place (g .d) (g .s) t) (g .b) from a
+  by-share : newStored g t p from a ≡ copied (g .d) w (numbered (p .from)) (placeAt g t) (g .b) from a
   unfolding newStored
   by-share =
-      copied-ext (g .d) (tested (p .new)) w (numbered (p .from)) (numbered (p .from)) (place (g .d) (g .s) t) (place (g .d) (g .s) t) (g .b) from a (S .new)
+      copied-ext (g .d) (tested (p .new)) w (numbered (p .from)) (numbered (p .from)) (placeAt g t) (placeAt g t) (g .b) from a (S .new)
       (λ i h e. refl) (λ i h e. refl)
 
   pub stored-length : length (newStored g t p from a) ≡ length a
   stored-length =
       ap length by-share
-      ∙ length-copied (g .d) w (numbered (p .from)) (place (g .d) (g .s) t) (g .b) from a (S .within) (places-within g t w a ht long)
+      ∙ length-copied (g .d) w (numbered (p .from)) (placeAt g t) (g .b) from a (S .within) (places-within g t w a ht long)
 
-  pub stored-other : (x i : ℕ) → x < g .s → i < g .d + 2 → ((j : ℕ) → j < g .d → w j ≡ true → place (g .d) (g .s) x i ≢ place (g .d) (g .s) t j)
+  pub stored-other : (x i : ℕ) → x < g .s → i < g .d + 2 → ((j : ℕ) → j < g .d → w j ≡ true → placeAt g x i ≢ placeAt g t j)
       → arrayBlock g (newStored g t p from a) x i ≡ arrayBlock g a x i
   stored-other x i hx hi o =
-      ap (block (g .b) (place (g .d) (g .s) x i)) by-share
-      ∙ copied-other (g .d) w (numbered (p .from)) (place (g .d) (g .s) t) (g .b) from a (S .within) (places-within g t w a ht long) (place (g .d) (g .s) x i)
-      (fits (place (g .d) (g .s) x i) ((g .d + 2) * g .s) (g .b) a long (place-lt (g .d) (g .s) x i hx hi)) o
+      ap (block (g .b) (placeAt g x i)) by-share
+      ∙ copied-other (g .d) w (numbered (p .from)) (placeAt g t) (g .b) from a (S .within) (places-within g t w a ht long) (placeAt g x i)
+      (fits (placeAt g x i) ((g .d + 2) * g .s) (g .b) a long (place-lt (g .layout) (g .d) (g .s) x i hx hi)) o
 
   pub stored-there : (x i : ℕ) → x < g .s → x ≢ t → i < g .d + 2 → arrayBlock g (newStored g t p from a) x i ≡ arrayBlock g a x i
-  stored-there x i hx ne hi = stored-other x i hx hi (λ j hj e. place-other (g .d) (g .s) x t i j hx ht ne)
+  stored-there x i hx ne hi = stored-other x i hx hi (λ j hj e. place-other (g .layout) (g .d) (g .s) x t i j hx ht ne)
 
   pub stored-parity : (x i : ℕ) → x < g .s → g .d ≤ i → i < g .d + 2 → arrayBlock g (newStored g t p from a) x i ≡ arrayBlock g a x i
   stored-parity x i hx low hi =
       elim (ℕ-discrete x t) [
         | yes e ↦ stored-other x i hx hi
-            (λ j hj _ q. let z : i ≡ j = place-inj (g .d) (g .s) t i j ht hi (omega arith) (ap (λ (y : ℕ). place (g .d) (g .s) y i) (sym e) ∙ q) in omega arith)
+            (λ j hj _ q. let z : i ≡ j = place-inj (g .layout) (g .d) (g .s) t i j ht hi (omega arith) (ap (λ (y : ℕ). placeAt g y i) (sym e) ∙ q) in omega arith)
         | no ne ↦ stored-there x i hx ne hi
       ]
 
@@ -180,11 +181,11 @@ module _ (g : Geometry) (t : ℕ) (p : Share) (w : ℕ → Bool) (v : ℕ → Li
   stored-here i h =
       cases (w i)
       (λ e.
-      ap (block (g .b) (place (g .d) (g .s) t i)) by-share
-      ∙ copied-at (g .d) w (numbered (p .from)) (place (g .d) (g .s) t) (g .b) from a (S .within) (places-within g t w a ht long) i h e
-      (λ j hj _ ne q. ne (sym (place-inj (g .d) (g .s) t i j ht (omega arith) (omega arith) q)))
+      ap (block (g .b) (placeAt g t i)) by-share
+      ∙ copied-at (g .d) w (numbered (p .from)) (placeAt g t) (g .b) from a (S .within) (places-within g t w a ht long) i h e
+      (λ j hj _ ne q. ne (sym (place-inj (g .layout) (g .d) (g .s) t i j ht (omega arith) (omega arith) q)))
       ∙ S .blocks i h e ∙ sym (choose-true (w i) (v i) (arrayBlock g a t i) e))
       (λ e.
       stored-other t i ht (omega arith)
-      (λ j hj u q. let z : i ≡ j = place-inj (g .d) (g .s) t i j ht (omega arith) (omega arith) q in clash u (ap w (sym z) ∙ e))
+      (λ j hj u q. let z : i ≡ j = place-inj (g .layout) (g .d) (g .s) t i j ht (omega arith) (omega arith) q in clash u (ap w (sym z) ∙ e))
       ∙ sym (choose-false (w i) (v i) (arrayBlock g a t i) e))

@@ -14,11 +14,11 @@ use lib.ListN.{length, getD}
 use borrow.Author.Tests.{lt-ltb, le-ltb, eq-eqb, ne-eqb, ltb-true, ltb-false, eqb-true}
 use Rattle.stripe.specs.Blocks.{gen, block, put, byteOf}
 use Rattle.stripe.specs.Parity.{solved}
-use Rattle.stripe.specs.Places.{place, numbered, columnAt, byColumn, Tabled}
+use Rattle.stripe.specs.Places.{numbered, columnAt, byColumn, Tabled}
 use Rattle.stripe.specs.Steps.{Gathers}
 use Rattle.stripe.proofs.Laws.{place-lt, array-byte, log-byte, solved-ignores, fits, length-block, getD-block, block-whole, block-put-same, block-put-other, length-put, length-gen, gen-ext}
 use Rattle.shelf.specs.Counting.{choose}
-use Rattle.shelf.specs.Members.{memberAt, roleP, addressOf, column, otherMissing, workedBack}
+use Rattle.shelf.specs.Members.{memberAt, placeAt, roleP, addressOf, column, otherMissing, workedBack}
 use Rattle.shelf.specs.State.{State}
 use Rattle.shelf.specs.Calls.{orElse, original, blockAt, served}
 use Rattle.shelf.specs.Words.{words}
@@ -92,7 +92,7 @@ module _ (r : Shelf) (a n l : List ℕ) (R : Ready (lent r a n l)) (x : ℕ) (hx
       (λ hi u. subst (λ (k : ℕ). k < (r .geometry .d + 2) * r .geometry .s + r .geometry .l)
       (number-log (r .geometry) l x i hi (said (words l) (r .geometry) (addressOf (r .geometry) x i) .ori) refl u) (let low = ori-low i u in omega (arith, low)))
       (λ e. subst (λ (k : ℕ). k < (r .geometry .d + 2) * r .geometry .s + r .geometry .l) (number-array (r .geometry) l x i e)
-      (let low = place-lt (r .geometry .d) (r .geometry .s) x i hx h in omega (arith, low)))
+      (let low = place-lt (r .geometry .layout) (r .geometry .d) (r .geometry .s) x i hx h in omega (arith, low)))
 
   pub gathers : (ns work : List ℕ) → r .geometry .d + 2 ≤ length ns → Tabled (r .geometry .d + 2) (originalPlace (r .geometry) l x) ns
       → length work ≡ r .geometry .b → Gathers (r .geometry .d) ((r .geometry .d + 2) * r .geometry .s) (r .geometry .b) a n ns work
@@ -150,8 +150,8 @@ module _ (r : Shelf) (a n l : List ℕ) (R : Ready (lent r a n l)) (x : ℕ) (hx
       ∙ ap (λ (k : List ℕ). getD k j 0) (sym (original-log i hi u)))
       (λ e.
       ap (λ (k : ℕ). byteOf (g .b) (a ++ n) k j) (sym (number-array g l x i e))
-      ∙ array-byte (g .b) ((g .d + 2) * g .s) a n (R .array) (place (g .d) (g .s) x i) j (place-lt (g .d) (g .s) x i hx h) hj
-      ∙ sym (getD-block (g .b) (place (g .d) (g .s) x i) a j hj)
+      ∙ array-byte (g .b) ((g .d + 2) * g .s) a n (R .array) (placeAt g x i) j (place-lt (g .layout) (g .d) (g .s) x i hx h) hj
+      ∙ sym (getD-block (g .b) (placeAt g x i) a j hj)
       ∙ ap (λ (k : List ℕ). getD k j 0) (sym (original-array i h e)))
 
   -- what is gathered by the table is gathered of the originals
@@ -175,7 +175,7 @@ module _ (r : Shelf) (a n l : List ℕ) (R : Ready (lent r a n l)) (x : ℕ) (hx
 
   module _ (i : ℕ) where
     pub given-sound : flagAt r (memberAt (r .geometry) x i) ≡ false
-        → block (r .geometry .b) (place (r .geometry .d) (r .geometry .s) x i) a ≡ servedBlock (lent r a n l) x i
+        → block (r .geometry .b) (placeAt (r .geometry) x i) a ≡ servedBlock (lent r a n l) x i
     unfolding blockAt stateOf
     given-sound t = sym (choose-false (flagAt r (memberAt (r .geometry) x i)) _ _ t)
 
@@ -205,10 +205,10 @@ module _ (r : Shelf) (a n l : List ℕ) (R : Ready (lent r a n l)) (x : ℕ) (hx
         (said-ori (words l) (r .geometry) (r .next) (r .listed) (omega (arith, Y .h-least)) (omega (arith, Y .d-least)) (Y .e-most) (R .listing .valid) (addressOf (r .geometry) x i)) u in
         fits v (r .geometry .l) (r .geometry .b) n (R .log) (omega (arith, low, R .listing .room))
 
-    pub place-fits : i < r .geometry .d → place (r .geometry .d) (r .geometry .s) x i * r .geometry .b + r .geometry .b ≤ length a
+    pub place-fits : i < r .geometry .d → placeAt (r .geometry) x i * r .geometry .b + r .geometry .b ≤ length a
     place-fits h =
-        fits (place (r .geometry .d) (r .geometry .s) x i) ((r .geometry .d + 2) * r .geometry .s) (r .geometry .b) a (R .array)
-        (place-lt (r .geometry .d) (r .geometry .s) x i hx (omega arith))
+        fits (placeAt (r .geometry) x i) ((r .geometry .d + 2) * r .geometry .s) (r .geometry .b) a (R .array)
+        (place-lt (r .geometry .layout) (r .geometry .d) (r .geometry .s) x i hx (omega arith))
 
     pub lost-length : length (lostBlock (lent r a n l) x i) ≡ r .geometry .b
     unfolding workedBack
@@ -222,7 +222,7 @@ module _ (r : Shelf) (a n l : List ℕ) (R : Ready (lent r a n l)) (x : ℕ) (hx
           | no q ↦ ap length (sym (given-log t (latest (words l) (r .geometry) (addressOf (r .geometry) x i)) refl q))
               ∙ length-block (r .geometry .b) (latest (words l) (r .geometry) (addressOf (r .geometry) x i)) n (latest-low (latest (words l) (r .geometry) (addressOf (r .geometry) x i)) refl q)
         ])
-        (λ t. ap length (sym (given-sound t)) ∙ length-block (r .geometry .b) (place (r .geometry .d) (r .geometry .s) x i) a (place-fits h))
+        (λ t. ap length (sym (given-sound t)) ∙ length-block (r .geometry .b) (placeAt (r .geometry) x i) a (place-fits h))
 
 -- ---- a block put into the caller's buffer, by what it is
 

@@ -13,10 +13,10 @@ use lib.Dec.{eqb, leb}
 use lib.ListN.{length}
 use borrow.Author.Tests.{lt-ltb, ltb-true, leb-true, eq-eqb, eqb-true, not-false}
 use Rattle.stripe.specs.Blocks.{block, put}
-use Rattle.stripe.specs.Places.{place, numbered}
+use Rattle.stripe.specs.Places.{numbered}
 use Rattle.stripe.proofs.Laws.{fits, length-block, length-put, block-put-same, block-put-other}
 use Rattle.shelf.specs.Counting.{choose, count}
-use Rattle.shelf.specs.Members.{InRange, addressOf}
+use Rattle.shelf.specs.Members.{InRange, addressOf, placeAt}
 use Rattle.shelf.specs.State.{State, isSome, listed, marksIn}
 use Rattle.shelf.specs.Calls.{reconstructs, preRead, recordsFor, placesFor, nextLeft, Appended, append, overwritten, oriAppended, curAppended, logged}
 use Rattle.shelf.specs.Words.{words}
@@ -345,17 +345,17 @@ module _ (r : Shelf) (a n l l' from : List ℕ) (t k : ℕ) (p : Share) (q : Pla
 
   abbrev first : List ℕ
   first =
-      copied (r .geometry .d) (preRead (r .geometry .d) w (listed (s .log) t)) (place (r .geometry .d) (r .geometry .s) t) (numbered (q .ori)) (r .geometry .b) a n
+      copied (r .geometry .d) (preRead (r .geometry .d) w (listed (s .log) t)) (placeAt (r .geometry) t) (numbered (q .ori)) (r .geometry .b) a n
 
   first-is : preLogged G t q a n ≡ first
   unfolding preLogged
   first-is =
-      copied-ext (G .d) (tested (q .pre)) pre (place (G .d) (G .s) t) (place (G .d) (G .s) t) (numbered (q .ori)) (numbered (q .ori)) (G .b) a n
+      copied-ext (G .d) (tested (q .pre)) pre (placeAt G t) (placeAt G t) (numbered (q .ori)) (numbered (q .ori)) (G .b) a n
       (λ i h. L .planned .pre i h ∙ pre-is i h) (λ i h e. refl) (λ i h e. refl)
 
   first-keeps : (length first ≡ G .l * G .b) × ((x : ℕ) → x < G .l → between .value x ≡ block (G .b) x first)
   first-keeps =
-      appended (G .b) (G .l) (G .d) pre (s .disk t) before (place (G .d) (G .s) t) (numbered (q .ori)) a n (places-within G t pre a (L .stripe) (H .array .long))
+      appended (G .b) (G .l) (G .d) pre (s .disk t) before (placeAt G t) (numbered (q .ori)) a n (places-within G t pre a (L .stripe) (H .array .long))
       (λ i h e. sym (H .array .blocks t i (L .stripe) (omega arith)) ∙ role-data G s t i h) to-ori (omega (arith, room, records-is, next-is)) (H .log .long)
       (H .log .blocks)
 
@@ -368,7 +368,7 @@ module _ (r : Shelf) (a n l l' from : List ℕ) (t k : ℕ) (p : Share) (q : Pla
   abbrev second : List ℕ
   second =
       copied (r .geometry .d) w (numbered (p .from)) (numbered (q .cur)) (r .geometry .b) from
-      (copied (r .geometry .d) (preRead (r .geometry .d) w (listed (s .log) t)) (place (r .geometry .d) (r .geometry .s) t) (numbered (q .ori)) (r .geometry .b) a n)
+      (copied (r .geometry .d) (preRead (r .geometry .d) w (listed (s .log) t)) (placeAt (r .geometry) t) (numbered (q .ori)) (r .geometry .b) a n)
 
   second-is : newLogged G p q from (preLogged G t q a n) ≡ second
   unfolding newLogged

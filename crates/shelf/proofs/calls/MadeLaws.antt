@@ -5,30 +5,31 @@ use mathlib.Core.Bool.{Bool, _||_}
 use mathlib.Core.List.{List}
 use mathlib.Core.Logic.{_≢_}
 use mathlib.Core.Option.{Option, none}
-use mathlib.Core.Path.{_≡_, sym, ap, ap₂, _∙_, subst}
-use Prim.Native.Nat.{ℕ, _+_, _*_, _≤_, _<_}
-use native.Mathlib.Decide.{ℕ-discrete}
+use mathlib.Core.Path.{_≡_, refl, sym, ap, ap₂, _∙_, subst}
+use Prim.Native.Nat.{ℕ, _+_, _*_, _/_, _≤_, _<_}
 use native.Mathlib.Omega.{arith}
+use lib.Dec.{eqb}
 use lib.ListN.{length, getD, replicate}
 use lib.Seq.{ext-getD}
+use borrow.Author.Tests.{eqb-true, eqb-false}
 use Rattle.stripe.specs.Blocks.{block, byteOf, gen}
 use Rattle.stripe.specs.Parity.{parityP, parityQ}
-use Rattle.stripe.specs.Places.{place, columnAt, byColumn, parityMade, parityMadeAll}
+use Rattle.stripe.specs.Places.{columnAt, byColumn, parityMade, parityMadeAll}
 use Rattle.stripe.proofs.Laws.{made-length, made-others, made-in-p, made-in-q, all-length, all-data, all-obey, parityP-ext, parityQ-ext, place-lt, place-inj, place-other, fits, length-block, getD-block, length-gen, getD-gen}
 use Rattle.shelf.specs.Counting.{choose, setAt}
-use Rattle.shelf.specs.Members.{InRange, addressOf, column, blockP, blockQ}
+use Rattle.shelf.specs.Members.{InRange, addressOf, column, blockP, blockQ, placeAt}
 use Rattle.shelf.specs.State.{State, isSome, listed, marksIn, freshState}
-use Rattle.shelf.specs.Calls.{nextLeft, modeLeft, settled, dropped, made, remade, overwritten}
+use Rattle.shelf.specs.Calls.{inMode, withFlags, nextLeft, modeLeft, settled, dropped, afresh, made, remade, overwritten}
 use Rattle.shelf.specs.Words.{words}
 use Rattle.shelf.specs.HashList.{noneWord, Entry, entry, entries, said, valid}
-use Rattle.shelf.specs.Rewriting.{Rewritten, dropStripe}
+use Rattle.shelf.specs.Rewriting.{Rewritten, dropStripes, dropStripe}
 pub use Rattle.shelf.specs.Showing.{HoldsArray, HoldsList}
 use Rattle.shelf.specs.Lent.{lent, recordAt, oriBy, curBy, arrayBlock, arrayLength, listedBy, listLength, flagsOf, recordOf, roleBlock, logOf, formatted, Leaves}
 use Rattle.shelf.specs.Records.{withListed}
 use Rattle.shelf.specs.declared.record.Geometry.{Geometry}
 use Rattle.shelf.specs.declared.record.Shelf.{Shelf}
+use Rattle.shelf.proofs.general.TestLaws.{cases, choose-true, choose-false}
 use Rattle.shelf.proofs.general.AddressLaws.{stripe-of}
-use Rattle.shelf.proofs.general.CountLaws.{setAt-here, setAt-other, setRow-here, setRow-other}
 use Rattle.shelf.proofs.lent.FormatLaws.{none-bytes}
 use Rattle.shelf.proofs.lent.FreshLaws.{full-bytes, fresh-says}
 use Rattle.shelf.proofs.lent.ListLayout.{list-laid}
@@ -75,33 +76,33 @@ pub record Rowed (g : Geometry) (s : State) (t : ℕ) (row : ℕ → List ℕ) (
 
 module _ (g : Geometry) (s : State) (t : ℕ) (row : ℕ → List ℕ) (a : List ℕ) (ht : t < g .s) (R : Rowed g s t row a) where
   abbrev at : ℕ → ℕ
-  at = place (g .d) (g .s) t
+  at = placeAt g t
 
   abbrev after : List ℕ
-  after = parityMade (place (g .d) (g .s) t) (g .d) (g .b) a
+  after = parityMade (placeAt g t) (g .d) (g .b) a
 
-  room : (x i : ℕ) → x < g .s → i < g .d + 2 → place (g .d) (g .s) x i * g .b + g .b ≤ length a
-  room x i hx hi = fits (place (g .d) (g .s) x i) ((g .d + 2) * g .s) (g .b) a (R .long) (place-lt (g .d) (g .s) x i hx hi)
+  room : (x i : ℕ) → x < g .s → i < g .d + 2 → placeAt g x i * g .b + g .b ≤ length a
+  room x i hx hi = fits (placeAt g x i) ((g .d + 2) * g .s) (g .b) a (R .long) (place-lt (g .layout) (g .d) (g .s) x i hx hi)
 
   own : (i k : ℕ) → i < g .d + 2 → k < g .d + 2 → i ≢ k → at i ≢ at k
-  own i k hi hk ne e = ne (place-inj (g .d) (g .s) t i k ht hi hk e)
+  own i k hi hk ne e = ne (place-inj (g .layout) (g .d) (g .s) t i k ht hi hk e)
 
   after-long : length after ≡ length a
   after-long = made-length at (g .d) (g .b) a (λ i h. room t i ht h) own
 
-  after-room : (x i : ℕ) → x < g .s → i < g .d + 2 → place (g .d) (g .s) x i * g .b + g .b ≤ length after
+  after-room : (x i : ℕ) → x < g .s → i < g .d + 2 → placeAt g x i * g .b + g .b ≤ length after
   after-room x i hx hi = omega (arith, after-long, room x i hx hi)
 
   -- a block that is neither P nor Q of stripe t
-  stays : (x i : ℕ) → x < g .s → i < g .d + 2 → place (g .d) (g .s) x i ≢ at (g .d) → place (g .d) (g .s) x i ≢ at (g .d + 1)
+  stays : (x i : ℕ) → x < g .s → i < g .d + 2 → placeAt g x i ≢ at (g .d) → placeAt g x i ≢ at (g .d + 1)
       → arrayBlock g after x i ≡ arrayBlock g a x i
   stays x i hx hi u v =
-      block-is (g .b) (place (g .d) (g .s) x i) after (arrayBlock g a x i) (after-room x i hx hi)
-      (length-block (g .b) (place (g .d) (g .s) x i) a (room x i hx hi))
-      (λ j l. made-others at (g .d) (g .b) a (λ k h. room t k ht h) own (place (g .d) (g .s) x i) j l u v ∙ byte-block (g .b) (place (g .d) (g .s) x i) a j l)
+      block-is (g .b) (placeAt g x i) after (arrayBlock g a x i) (after-room x i hx hi)
+      (length-block (g .b) (placeAt g x i) a (room x i hx hi))
+      (λ j l. made-others at (g .d) (g .b) a (λ k h. room t k ht h) own (placeAt g x i) j l u v ∙ byte-block (g .b) (placeAt g x i) a j l)
 
   pub elsewhere : (x i : ℕ) → x < g .s → i < g .d + 2 → x ≢ t → arrayBlock g after x i ≡ arrayBlock g a x i
-  elsewhere x i hx hi ne = stays x i hx hi (place-other (g .d) (g .s) x t i (g .d) hx ht ne) (place-other (g .d) (g .s) x t i (g .d + 1) hx ht ne)
+  elsewhere x i hx hi ne = stays x i hx hi (place-other (g .layout) (g .d) (g .s) x t i (g .d) hx ht ne) (place-other (g .layout) (g .d) (g .s) x t i (g .d + 1) hx ht ne)
 
   pub in-row : (i : ℕ) → i < g .d → arrayBlock g after t i ≡ row i
   in-row i hi =
@@ -129,28 +130,22 @@ module _ (g : Geometry) (s : State) (t : ℕ) (row : ℕ → List ℕ) (a : List
       ∙ sym (getD-gen (g .b) (λ j. parityQ (g .d) (column row j)) j l))
 
   -- the array with the stripe's parity made holds the blocks of `made`
-  pub made-reads : HoldsArray g (made g s t row) (parityMade (place (g .d) (g .s) t) (g .d) (g .b) a)
-  unfolding made settled
+  pub made-reads : HoldsArray g (made g s t row) (parityMade (placeAt g t) (g .d) (g .b) a)
+  unfolding made settled choose setAt
   made-reads =
       record {
         long = after-long ∙ R .long;
         blocks = λ x i hx hi.
             by-role g (λ k. roleBlock g (made g s t row) x k ≡ arrayBlock g after x k)
-            (λ k hk. role-data g (made g s t row) x k hk ∙
-            elim (ℕ-discrete x t) [
-              | yes e ↦ setRow-here t row (s .disk) x k e ∙ sym (in-row k hk) ∙ ap (λ (y : ℕ). arrayBlock g after y k) (sym e)
-              | no ne ↦ setRow-other t row (s .disk) x k ne ∙ sym (R .disk x k hx ne hk) ∙ sym (elsewhere x k hx (omega arith) ne)
-            ])
-            (role-p g (made g s t row) x ∙
-            elim (ℕ-discrete x t) [
-              | yes e ↦ setAt-here t (blockP g row) (s .p) x e ∙ sym in-p ∙ ap (λ (y : ℕ). arrayBlock g after y (g .d)) (sym e)
-              | no ne ↦ setAt-other t (blockP g row) (s .p) x ne ∙ sym (R .p x hx ne) ∙ sym (elsewhere x (g .d) hx (omega arith) ne)
-            ])
-            (role-q g (made g s t row) x ∙
-            elim (ℕ-discrete x t) [
-              | yes e ↦ setAt-here t (blockQ g row) (s .q) x e ∙ sym in-q ∙ ap (λ (y : ℕ). arrayBlock g after y (g .d + 1)) (sym e)
-              | no ne ↦ setAt-other t (blockQ g row) (s .q) x ne ∙ sym (R .q x hx ne) ∙ sym (elsewhere x (g .d + 1) hx (omega arith) ne)
-            ])
+            (λ k hk. role-data g (made g s t row) x k hk ∙ cases (eqb x t)
+            (λ e. simp e (sym (in-row k hk) ∙ ap (λ (y : ℕ). arrayBlock g after y k) (sym (eqb-true x t e))))
+            (λ e. simp e (sym (elsewhere x k hx (omega arith) (eqb-false x t e) ∙ R .disk x k hx (eqb-false x t e) hk))))
+            (role-p g (made g s t row) x ∙ cases (eqb x t)
+            (λ e. simp e (sym in-p ∙ ap (λ (y : ℕ). arrayBlock g after y (g .d)) (sym (eqb-true x t e))))
+            (λ e. simp e (sym (elsewhere x (g .d) hx (omega arith) (eqb-false x t e) ∙ R .p x hx (eqb-false x t e)))))
+            (role-q g (made g s t row) x ∙ cases (eqb x t)
+            (λ e. simp e (sym in-q ∙ ap (λ (y : ℕ). arrayBlock g after y (g .d + 1)) (sym (eqb-true x t e))))
+            (λ e. simp e (sym (elsewhere x (g .d + 1) hx (omega arith) (eqb-false x t e) ∙ R .q x hx (eqb-false x t e)))))
             i hi;
       }
 
@@ -179,51 +174,54 @@ rowed-same g s t a ht A =
       q = λ x hx ne. sym (A .blocks x (g .d + 1) hx (omega arith)) ∙ role-q g s x;
     }
 
--- ---- one stripe: the list and the record
+-- ---- some stripes: the list and the record
 
--- the stripe's entries dropped: l₀ before, l after
-module _ (g : Geometry) (s : State) (t : ℕ) (row : ℕ → List ℕ) (Y : InRange g) (k₀ k : ℕ) (l₀ l : List ℕ) (Z : HoldsList g s k₀ l₀)
-    (W : Rewritten g (dropStripe (g .d) t (entries (words l₀) g)) l k) where
-  said-gone : (x i : ℕ) → i < g .d → x ≡ t → said (words l) g (addressOf g x i) ≡ entry (addressOf g x i) noneWord noneWord
-  said-gone x i hi e =
-      dropped-gone (words l₀) g (s .log .next) k₀ (Y .h-least) (omega (arith, Y .d-least)) (Y .e-most) (Z .passes) t k l W (addressOf g x i) (stripe-of x (g .d) i hi ∙ e)
+-- the entries of the stripes that pass the test dropped: l₀ before, l after
+module _ (g : Geometry) (s : State) (t : ℕ → Bool) (Y : InRange g) (k₀ k : ℕ) (l₀ l : List ℕ) (Z : HoldsList g s k₀ l₀)
+    (W : Rewritten g (dropStripes (g .d) t (entries (words l₀) g)) l k) where
+  -- what is said of a block, by either word
+  dropped-word : (f : Entry → ℕ) → ((a : ℕ) → f (entry a noneWord noneWord) ≡ noneWord) → (x i : ℕ) → i < g .d
+      → recordAt (f (said (words l) g (addressOf g x i))) ≡ choose (t x) none (recordAt (f (said (words l₀) g (addressOf g x i))))
+  dropped-word f none-there x i hi =
+      let at : addressOf g x i / g .d ≡ x = stripe-of x (g .d) i hi in
+      cases (t x)
+      (λ e. ap (λ (v : Entry). recordAt (f v))
+      (dropped-gone (words l₀) g (s .log .next) k₀ (Y .h-least) (omega (arith, Y .d-least)) (Y .e-most) (Z .passes) t k l W (addressOf g x i) (ap t at ∙ e))
+      ∙ ap recordAt (none-there (addressOf g x i)) ∙ none-record ∙ sym (choose-true (t x) none (recordAt (f (said (words l₀) g (addressOf g x i)))) e))
+      (λ e. ap (λ (v : Entry). recordAt (f v))
+      (dropped-kept (words l₀) g (s .log .next) k₀ (Y .h-least) (omega (arith, Y .d-least)) (Y .e-most) (Z .passes) t k l W (addressOf g x i) (ap t at ∙ e))
+      ∙ sym (choose-false (t x) none (recordAt (f (said (words l₀) g (addressOf g x i)))) e))
 
-  said-kept : (x i : ℕ) → i < g .d → x ≢ t → said (words l) g (addressOf g x i) ≡ said (words l₀) g (addressOf g x i)
-  said-kept x i hi ne =
-      dropped-kept (words l₀) g (s .log .next) k₀ (Y .h-least) (omega (arith, Y .d-least)) (Y .e-most) (Z .passes) t k l W (addressOf g x i)
-      (λ q. ne (sym (stripe-of x (g .d) i hi) ∙ q))
+  dropped-ori : (x i : ℕ) → x < g .s → i < g .d → oriBy g l x i ≡ choose (t x) none (s .log .ori x i)
+  dropped-ori x i hx hi = dropped-word (λ v. v .ori) (λ _. refl) x i hi ∙ ap (choose (t x) none) (Z .ori x i hx hi)
 
-  dropped-ori : (x i : ℕ) → x < g .s → i < g .d → oriBy g l x i ≡ setAt t (λ _. none) (s .log .ori) x i
-  dropped-ori x i hx hi =
-      elim (ℕ-discrete x t) [
-        | yes e ↦ ap (λ (v : Entry). recordAt (v .ori)) (said-gone x i hi e) ∙ none-record ∙ sym (setRow-here t (λ _. none) (s .log .ori) x i e)
-        | no ne ↦ ap (λ (v : Entry). recordAt (v .ori)) (said-kept x i hi ne) ∙ Z .ori x i hx hi ∙ sym (setRow-other t (λ _. none) (s .log .ori) x i ne)
-      ]
-
-  dropped-cur : (x i : ℕ) → x < g .s → i < g .d → curBy g l x i ≡ setAt t (λ _. none) (s .log .cur) x i
-  dropped-cur x i hx hi =
-      elim (ℕ-discrete x t) [
-        | yes e ↦ ap (λ (v : Entry). recordAt (v .cur)) (said-gone x i hi e) ∙ none-record ∙ sym (setRow-here t (λ _. none) (s .log .cur) x i e)
-        | no ne ↦ ap (λ (v : Entry). recordAt (v .cur)) (said-kept x i hi ne) ∙ Z .cur x i hx hi ∙ sym (setRow-other t (λ _. none) (s .log .cur) x i ne)
-      ]
+  dropped-cur : (x i : ℕ) → x < g .s → i < g .d → curBy g l x i ≡ choose (t x) none (s .log .cur x i)
+  dropped-cur x i hx hi = dropped-word (λ v. v .cur) (λ _. refl) x i hi ∙ ap (choose (t x) none) (Z .cur x i hx hi)
 
   -- as many blocks are left listed as entries
-  dropped-marks : k ≡ marksIn g (listed (dropped (s .log) t))
+  pub dropped-marks : k ≡ marksIn g (listed (dropped (s .log) t))
   dropped-marks =
       sym (marks-listed g l (s .log .next) k Y (dropped-valid (words l₀) g (s .log .next) k₀ (Y .h-least) (omega (arith, Y .d-least)) (Y .e-most) (Z .passes) t k l W))
       ∙ marksIn-ext g (listedBy g l) (listed (dropped (s .log) t))
       (λ x i hx hi. ap₂ (λ (o c : Option ℕ). isSome o || isSome c) (dropped-ori x i hx hi) (dropped-cur x i hx hi))
 
-  pub made-says : HoldsList g (made g s t row) k l
-  unfolding made settled
-  made-says =
+  -- whatever disks, mode and flags it is settled with
+  pub afresh-says : (disk : ℕ → ℕ → List ℕ) (m : ℕ) (f : ℕ → Bool) → HoldsList g (settled g (withFlags (inMode (afresh g s t disk) m) f)) k l
+  unfolding settled
+  afresh-says disk m f =
       record {
-        length-of = ap length (W .0) ∙ length-bytes _ ∙ (let q = length-encode g (dropStripe (g .d) t (entries (words l₀) g)) (Y .h-least) (Y .e-most) in omega (arith, q));
+        length-of = ap length (W .0) ∙ length-bytes _ ∙ (let q = length-encode g (dropStripes (g .d) t (entries (words l₀) g)) (Y .h-least) (Y .e-most) in omega (arith, q));
         passes = ap (λ (m : ℕ). valid (words l) g (nextLeft m (s .log .next)) k) (sym dropped-marks)
             ∙ dropped-left (words l₀) g (s .log .next) k₀ (Y .h-least) (omega (arith, Y .d-least)) (Y .e-most) (Z .passes) t k l W;
         ori = dropped-ori;
         cur = dropped-cur;
       }
+
+-- one stripe
+pub made-says : (g : Geometry) (s : State) (t : ℕ) (row : ℕ → List ℕ) → InRange g → (k₀ k : ℕ) (l₀ l : List ℕ) → HoldsList g s k₀ l₀
+    → Rewritten g (dropStripe (g .d) t (entries (words l₀) g)) l k → HoldsList g (made g s t row) k l
+unfolding made
+made-says g s t row Y k₀ k l₀ l Z W = afresh-says g s (λ x. eqb x t) Y k₀ k l₀ l Z W _ _ _
 
 -- the record with k entries left
 pub made-record : (g : Geometry) (s : State) (t : ℕ) (row : ℕ → List ℕ) (r : Shelf) (k : ℕ) (l : List ℕ) → InRange g → r ≡ recordOf g s → HoldsList g (made g s t row) k l
@@ -241,9 +239,9 @@ made-log g s t row n e = e
 -- Stripe t with the data blocks of row made, all of it: from what is lent as the state s, but for the array a, which has the row already.
 pub made-leaves : (g : Geometry) (s : State) (t : ℕ) (row : ℕ → List ℕ) (r : Shelf) (k : ℕ) (a n l : List ℕ) → InRange g → t < g .s → r ≡ recordOf g s → n ≡ logOf g s
     → Rowed g s t row a → HoldsList g (made g s t row) k l → ((i : ℕ) → getD l i 0 < 256)
-    → Leaves g (made g s t row) (lent (withListed r k) (parityMade (place (g .d) (g .s) t) (g .d) (g .b) a) n l)
+    → Leaves g (made g s t row) (lent (withListed r k) (parityMade (placeAt g t) (g .d) (g .b) a) n l)
 made-leaves g s t row r k a n l Y ht er en R Z bytes =
-    leaves-by g (made g s t row) (withListed r k) (parityMade (place (g .d) (g .s) t) (g .d) (g .b) a) n l Y (made-record g s t row r k l Y er Z) (made-reads g s t row a ht R)
+    leaves-by g (made g s t row) (withListed r k) (parityMade (placeAt g t) (g .d) (g .b) a) n l Y (made-record g s t row r k l Y er Z) (made-reads g s t row a ht R)
     (made-log g s t row n en) Z bytes
 
 -- ---- all stripes
@@ -255,24 +253,24 @@ pub record Filled (g : Geometry) (disk : ℕ → ℕ → List ℕ) (a : List ℕ
 
 module _ (g : Geometry) (disk : ℕ → ℕ → List ℕ) (a : List ℕ) (F : Filled g disk a) where
   abbrev at-all : ℕ → ℕ → ℕ
-  at-all = place (g .d) (g .s)
+  at-all = placeAt g
 
   abbrev all-after : List ℕ
-  all-after = parityMadeAll (g .s) (place (g .d) (g .s)) (g .d) (g .b) a
+  all-after = parityMadeAll (g .s) (placeAt g) (g .d) (g .b) a
 
-  all-room : (x i : ℕ) → x < g .s → i < g .d + 2 → place (g .d) (g .s) x i * g .b + g .b ≤ length a
-  all-room x i hx hi = fits (place (g .d) (g .s) x i) ((g .d + 2) * g .s) (g .b) a (F .long) (place-lt (g .d) (g .s) x i hx hi)
+  all-room : (x i : ℕ) → x < g .s → i < g .d + 2 → placeAt g x i * g .b + g .b ≤ length a
+  all-room x i hx hi = fits (placeAt g x i) ((g .d + 2) * g .s) (g .b) a (F .long) (place-lt (g .layout) (g .d) (g .s) x i hx hi)
 
   all-own : (x i k : ℕ) → x < g .s → i < g .d + 2 → k < g .d + 2 → i ≢ k → at-all x i ≢ at-all x k
-  all-own x i k hx hi hk ne e = ne (place-inj (g .d) (g .s) x i k hx hi hk e)
+  all-own x i k hx hi hk ne e = ne (place-inj (g .layout) (g .d) (g .s) x i k hx hi hk e)
 
   all-apart : (x y i k : ℕ) → x < g .s → y < g .s → x ≢ y → at-all x i ≢ at-all y k
-  all-apart x y i k hx hy ne = place-other (g .d) (g .s) x y i k hx hy ne
+  all-apart x y i k hx hy ne = place-other (g .layout) (g .d) (g .s) x y i k hx hy ne
 
   all-long : length all-after ≡ length a
   all-long = all-length at-all (g .d) (g .s) (g .b) a all-room all-own all-apart (g .s) (omega arith)
 
-  all-after-room : (x i : ℕ) → x < g .s → i < g .d + 2 → place (g .d) (g .s) x i * g .b + g .b ≤ length all-after
+  all-after-room : (x i : ℕ) → x < g .s → i < g .d + 2 → placeAt g x i * g .b + g .b ≤ length all-after
   all-after-room x i hx hi = omega (arith, all-long, all-room x i hx hi)
 
   all-columns : (x j : ℕ) → x < g .s → j < g .b → (i : ℕ) → i < g .d → columnAt (at-all x) (g .b) all-after j i ≡ column (disk x) j i
@@ -307,7 +305,7 @@ module _ (g : Geometry) (disk : ℕ → ℕ → List ℕ) (a : List ℕ) (F : Fi
       ∙ sym (getD-gen (g .b) (λ j. parityQ (g .d) (column (disk x) j)) j l))
 
   -- the array with all parity made holds the blocks of `remade`
-  pub remade-reads : (s : State) (f : ℕ → Bool) → HoldsArray g (remade g s disk f) (parityMadeAll (g .s) (place (g .d) (g .s)) (g .d) (g .b) a)
+  pub remade-reads : (s : State) (f : ℕ → Bool) → HoldsArray g (remade g s disk f) (parityMadeAll (g .s) (placeAt g) (g .d) (g .b) a)
   unfolding remade
   remade-reads s f =
       record {
@@ -346,7 +344,7 @@ remade-log g s disk f n e = e
 -- All stripes with the data blocks of disk made, all of it: the array a has the blocks already.
 pub remade-leaves : (g : Geometry) (s : State) (disk : ℕ → ℕ → List ℕ) (f : ℕ → Bool) (a n : List ℕ) → InRange g → Filled g disk a → n ≡ logOf g s
     → Leaves g (remade g s disk f)
-    (lent (record { geometry = g; mode = 0; next = 0; listed = 0; failed = flagsOf f }) (parityMadeAll (g .s) (place (g .d) (g .s)) (g .d) (g .b) a) n (replicate (listLength g) 255))
+    (lent (record { geometry = g; mode = 0; next = 0; listed = 0; failed = flagsOf f }) (parityMadeAll (g .s) (placeAt g) (g .d) (g .b) a) n (replicate (listLength g) 255))
 remade-leaves g s disk f a n Y F en =
-    leaves-by g (remade g s disk f) (record { geometry = g; mode = 0; next = 0; listed = 0; failed = flagsOf f }) (parityMadeAll (g .s) (place (g .d) (g .s)) (g .d) (g .b) a) n
+    leaves-by g (remade g s disk f) (record { geometry = g; mode = 0; next = 0; listed = 0; failed = flagsOf f }) (parityMadeAll (g .s) (placeAt g) (g .d) (g .b) a) n
     (replicate (listLength g) 255) Y (remade-record g s disk f) (remade-reads g disk a F s f) (remade-log g s disk f n en) (remade-says g s disk f Y) (full-bytes (listLength g))

@@ -1,39 +1,38 @@
 -- Rebuild: its rows 12 and 14, its blocks, filled one after another and stripe after stripe, and what it leaves, which is what is promised.
 -- Assumes nothing.
-use mathlib.Core.Bool.{Bool, true, false, not, _&&_, _||_}
+use mathlib.Core.Bool.{Bool, true, false, not, _&&_}
 use mathlib.Core.List.{List}
-use mathlib.Core.Path.{_≡_, refl, sym, ap, _∙_, subst}
+use mathlib.Core.Path.{_≡_, refl, sym, ap, ap₂, _∙_, subst}
 use Prim.Native.Nat.{ℕ, _+_, _-_, _≤_, _<_}
 use native.Mathlib.Decide.{ℕ-discrete}
 use native.Mathlib.Omega.{arith}
-use lib.Dec.{ltb}
-use lib.ListN.{length, getD, replicate, set, length-set}
+use lib.Dec.{eqb, ltb}
+use lib.ListN.{length, getD, set, length-set}
 use lib.Seq.{getD-set-same, getD-set-other}
-use borrow.Author.Tests.{ltb-true, ltb-false}
-use Rattle.shelf.specs.Counting.{choose, count, any}
+use borrow.Author.Tests.{eq-eqb, ltb-true, ltb-false}
+use Rattle.shelf.specs.Counting.{count, any, Tests}
 use Rattle.shelf.specs.Members.{memberAt}
-use Rattle.shelf.specs.State.{State, listed, stale}
+use Rattle.shelf.specs.State.{State, listed, stale, marksIn}
 use Rattle.shelf.specs.Status.{rebuild, arrayFailed, arraySound, withheld, dataWithheld, row, codeOf}
-use Rattle.shelf.specs.Calls.{blockAt, remade, parityFailed, arrayCleared, rebuilt, work}
+use Rattle.shelf.specs.Calls.{nextLeft, modeLeft, settled, dropped, arrayCleared, modeRebuilt, rebuilt, work}
 use Rattle.shelf.specs.Words.{words}
-use Rattle.shelf.specs.HashList.{staleIn, valid}
-use Rattle.shelf.specs.Lent.{Lent, lent, flagAt, flagsOf, stateOf, listedBy, triesList, numberOf, Leaves, Answered}
-use Rattle.shelf.specs.Records.{withMode, withListed, withCleared}
+use Rattle.shelf.specs.HashList.{Measures, Lists, staleIn, valid}
+use Rattle.shelf.specs.Lent.{Lent, lent, flagAt, flagsOf, stateOf, listedBy, triesList, numberOf, recordOf, logOf, Leaves, Answered}
+use Rattle.shelf.specs.Records.{failedRole, withMode, withListed, withCleared}
 use Rattle.shelf.specs.Reading.{ListReady}
-use Rattle.shelf.specs.Rebuilding.{Rebuildable, dataFailedAt, withheldAt, rebuiltTo, rebuiltRecord, rebuiltList}
+use Rattle.shelf.specs.Rewriting.{Rewritten}
+use Rattle.shelf.specs.Rebuilding.{Rebuildable, parityFailedAt, dataFailedAt, withheldAt, rebuiltTo, rebuiltRecord, keptEntries}
 use Rattle.shelf.specs.declared.record.Geometry.{Geometry}
 use Rattle.shelf.specs.declared.record.Shelf.{Shelf}
 use Rattle.shelf.proofs.general.TestLaws.{cases, clash, choose-true, choose-false, and-false, and-left, and-right, same-bool}
 use Rattle.shelf.proofs.general.WalkLaws.{any-turn}
-use Rattle.shelf.proofs.general.CountLaws.{any-some, any-found, none-any, count-more}
+use Rattle.shelf.proofs.general.CountLaws.{any-ext, any-some, any-found, none-any, count-more}
 use Rattle.shelf.proofs.numbers.TableRows.{row-hit, row-pass}
-use Rattle.shelf.proofs.numbers.InputLaws.{Passed, fine-record, inputs-pass}
+use Rattle.shelf.proofs.numbers.InputLaws.{Passed, fine-record, inputs-pass, measures-of}
 use Rattle.shelf.proofs.hashlist.ListMarks.{marks-listed}
 use Rattle.shelf.proofs.agreement.ListedLaws.{marks-none}
-use Rattle.shelf.proofs.lent.FreshLaws.{full-bytes}
 use Rattle.shelf.proofs.lent.LayoutLaws.{flags-are, log-is}
-use Rattle.shelf.proofs.lent.LeavesLaws.{marks-here}
-use Rattle.shelf.proofs.calls.MadeLaws.{HoldsList, leaves-by, remade-says, remade-record, remade-log}
+use Rattle.shelf.proofs.calls.MadeLaws.{HoldsList, leaves-by, dropped-marks, afresh-says}
 use Rattle.shelf.proofs.calls.ServedLaws.{held-stale, list-ready}
 use Rattle.shelf.proofs.calls.RefillLaws.{rebuilt-reads}
 
@@ -46,14 +45,11 @@ module _ (f : ℕ → Bool) (j : ℕ) (t : Bool) (e : t ≡ f (j - 1)) (pos : 0 
   pub walk-miss : t ≡ false → any (j - 1) f ≡ any j f
   walk-miss q = any-turn j (j - 1) f (omega (arith, pos)) (sym e ∙ q)
 
--- one of two tests, tried in turn
-pub either-first : (u v t : Bool) → t ≡ u → t ≡ true → true ≡ (u || v)
-either-first u v t e q = ap (λ (z : Bool). z || v) (sym q ∙ e)
-
-pub either-second : (u v t w : Bool) → t ≡ u → t ≡ false → w ≡ v → w ≡ (u || v)
-either-second u v t w e q f = f ∙ ap (λ (z : Bool). z || v) (sym q ∙ e)
-
 -- ---- row 14, as the code tries it
+
+-- a data block is on a failed member, by a table of the roles
+pub roles-any : (r : Shelf) (x : ℕ) (ts : List Bool) → Tests (r .geometry .d + 2) (failedRole r x) ts → any (r .geometry .d) (λ k. getD ts k false) ≡ dataFailedAt r x
+roles-any r x ts T = any-ext (r .geometry .d) (λ k. getD ts k false) (failedRole r x) (λ k h. T k (omega arith))
 
 module _ (r : Shelf) (l : List ℕ) (R : ListReady r l) (x : ℕ) where
   -- no data disk has failed
@@ -146,20 +142,24 @@ cleared-all r i fs e C =
     (λ t. let high = ltb-false k (r .geometry .d + 2) t in C .above k (omega (arith, e, high)) ∙ sym (choose-false (ltb k (r .geometry .d + 2)) false (flagAt r k) t))) in
     λ j. record { geometry = r .geometry; mode = r .mode; next = r .next; listed = r .listed; failed = same j }
 
--- ---- the record and the list after it
+-- ---- the record after it
 
-pub settled-sound : (r : Shelf) (parity : Bool) (l : List ℕ) (c : Shelf) → parity ≡ false → c ≡ withCleared r → (c ≡ rebuiltRecord r parity) × (l ≡ rebuiltList parity l)
-settled-sound r parity l c t e = (
-  e ∙ sym (choose-false parity (withListed (withMode (withCleared r) 0) 0) (withCleared r) t),
-  sym (choose-false parity (replicate (length l) 255) l t),
-)
+-- the mode is 0 where P and Q were made and nothing is left listed, else as it was
+pub settled-normal : (r c m : Shelf) (made : Bool) (n : ℕ) → made ≡ true → n ≡ 0 → c ≡ withCleared r → m ≡ withMode c 0 → withListed m n ≡ rebuiltRecord r made n
+settled-normal r c m made n t z ec em =
+    ap (λ (v : Shelf). withListed v n) (em ∙ ap (λ (v : Shelf). withMode v 0) ec
+    ∙ ap (λ (k : ℕ). withMode (withCleared r) k) (sym (choose-true (made && eqb n 0) 0 (r .mode) (ap₂ _&&_ t (eq-eqb n 0 z)))))
 
-pub settled-parity : (r : Shelf) (parity : Bool) (l l' : List ℕ) (c m o : Shelf) → parity ≡ true → c ≡ withCleared r → m ≡ withMode c 0 → o ≡ withListed m 0
-    → l' ≡ replicate (length l) 255 → (o ≡ rebuiltRecord r parity) × (l' ≡ rebuiltList parity l)
-settled-parity r parity l l' c m o t ec em eo el = (
-  eo ∙ ap (λ (v : Shelf). withListed v 0) (em ∙ ap (λ (v : Shelf). withMode v 0) ec) ∙ sym (choose-true parity (withListed (withMode (withCleared r) 0) 0) (withCleared r) t),
-  el ∙ sym (choose-true parity (replicate (length l) 255) l t),
-)
+pub settled-kept : (r c : Shelf) (made : Bool) (n : ℕ) → (made && eqb n 0) ≡ false → c ≡ withCleared r → withListed c n ≡ rebuiltRecord r made n
+settled-kept r c made n t ec =
+    ap (λ (v : Shelf). withListed v n) (ec ∙ ap (λ (k : ℕ). withMode (withCleared r) k) (sym (choose-false (made && eqb n 0) 0 (r .mode) t)))
+
+-- the count is the record's own
+pub settled-by : (r o : Shelf) (made : Bool) (n : ℕ) (l l' : List ℕ) → o ≡ rebuiltRecord r made n → Rewritten (r .geometry) (keptEntries r l) l' n
+    → Rewritten (r .geometry) (keptEntries r l) l' (o .listed) × (o ≡ rebuiltRecord r made (o .listed))
+settled-by r o made n l l' e W =
+    let k : n ≡ o .listed = sym (ap (λ (v : Shelf). v .listed) e) in
+    (subst (Rewritten (r .geometry) (keptEntries r l) l') k W, e ∙ ap (rebuiltRecord r made) k)
 
 -- ---- the call
 
@@ -169,14 +169,6 @@ module _ (r : Shelf) (a n l : List ℕ) where
 
   abbrev st : State
   st = stateOf (lent r a n l)
-
-  -- the state where parity had not failed
-  abbrev refilled : State
-  refilled = record { disk = blockAt g st; p = st .p; q = st .q; log = st .log; mode = st .mode; failed = arrayCleared g (st .failed) }
-
-  -- and where it had
-  abbrev remadeAll : State
-  remadeAll = remade g st (blockAt g st) (arrayCleared g (st .failed))
 
   passed : 0 ≡ numberOf r (length a) (length n) l rebuild → Passed r (length a) (length n) l
   unfolding numberOf triesList
@@ -196,60 +188,49 @@ module _ (r : Shelf) (a n l : List ℕ) where
       let P = passed e in
       record { ready = record { listing = list-ready r (length a) (length n) l P; array = P .array; log = P .log }; two = two-failed P }
 
-  -- parity had not failed: the list stays
-  sound-leaves : (e : 0 ≡ numberOf r (length a) (length n) l rebuild) → ((i : ℕ) → getD l i 0 < 256)
-      → Leaves g refilled (lent (withCleared r) (rebuiltTo (lent r a n l) false (g .s)) n l)
-  unfolding stateOf
-  sound-leaves e bytes =
-      let P = passed e in
-      leaves-by g refilled (withCleared r) (rebuiltTo (lent r a n l) false (g .s)) n l (P .range)
-      (λ i. record { geometry = g; mode = r .mode; next = r .next; listed = sym (marks-here r a n l P) i; failed = flagsOf (arrayCleared g (flagAt r)) })
-      (rebuilt-reads r a n l (two-failed P) (rebuild-asks e .ready) false refilled (λ x i. refl) (λ _ x. refl) (λ _ x. refl) (λ z. clash z refl) (λ z. clash z refl))
-      (log-is g refilled n (P .log) (λ k _. refl))
-      (record { length-of = P .list; passes = P .valid; ori = λ x i hx hi. refl; cur = λ x i hx hi. refl }) bytes
+  pub settle-asks : 0 ≡ numberOf r (length a) (length n) l rebuild
+      → (r .geometry .d ≤ 16) × (Measures (r .geometry) l × Lists (words l) (r .geometry) (r .listed))
+  settle-asks e =
+      let P = passed e in (P .range .d-most, (measures-of g l (P .range) (P .list), record { next = r .next; passing = P .valid }))
 
-  -- parity had failed: every word of the list is none
-  parity-leaves : (e : 0 ≡ numberOf r (length a) (length n) l rebuild)
-      → Leaves g remadeAll (lent (withListed (withMode (withCleared r) 0) 0) (rebuiltTo (lent r a n l) true (g .s)) n (replicate (length l) 255))
-  unfolding stateOf choose
-  parity-leaves e =
-      let P = passed e in
-      leaves-by g remadeAll (withListed (withMode (withCleared r) 0) 0) (rebuiltTo (lent r a n l) true (g .s)) n (replicate (length l) 255) (P .range)
-      (remade-record g st (blockAt g st) (arrayCleared g (st .failed)))
-      (unfold remade in rebuilt-reads r a n l (two-failed P) (rebuild-asks e .ready) true remadeAll (λ x i. refl) (λ z. clash refl z) (λ z. clash refl z) (λ _ x. refl) (λ _ x. refl))
-      (remade-log g st (blockAt g st) (arrayCleared g (st .failed)) n (log-is g st n (P .log) (λ k _. refl)))
-      (subst (λ (k : ℕ). HoldsList g remadeAll 0 (replicate k 255)) (sym (P .list)) (remade-says g st (blockAt g st) (arrayCleared g (st .failed)) (P .range)))
-      (full-bytes (length l))
+  module _ (e : 0 ≡ numberOf r (length a) (length n) l rebuild) (made : Bool) (em : made ≡ any (r .geometry .s) (parityFailedAt r)) (k : ℕ) (l' : List ℕ)
+      (W : Rewritten (r .geometry) (keptEntries r l) l' k) (bytes : (i : ℕ) → getD l' i 0 < 256) where
+    before-says : HoldsList g st (r .listed) l
+    unfolding stateOf
+    before-says = let P = passed e in record { length-of = P .list; passes = P .valid; ori = λ x i _ _. refl; cur = λ x i _ _. refl }
 
-  rebuilt-sound : parityFailed g (st .failed) ≡ false → refilled ≡ rebuilt g st
-  unfolding rebuilt
-  rebuilt-sound t = sym (choose-false (parityFailed g (st .failed)) remadeAll refilled t)
+    after-marks : k ≡ marksIn g (listed (dropped (st .log) (parityFailedAt r)))
+    after-marks = dropped-marks g st (parityFailedAt r) (passed e .range) (r .listed) k l l' before-says W
 
-  rebuilt-parity : parityFailed g (st .failed) ≡ true → remadeAll ≡ rebuilt g st
-  unfolding rebuilt
-  rebuilt-parity t = sym (choose-true (parityFailed g (st .failed)) remadeAll refilled t)
+    after-record : rebuiltRecord r made k ≡ recordOf g (rebuilt g st)
+    unfolding rebuilt settled stateOf
+    after-record = λ i.
+        record {
+          geometry = g;
+          mode = modeLeft (after-marks i) (modeRebuilt (em i) (after-marks i) (r .mode));
+          next = nextLeft (after-marks i) (r .next);
+          listed = after-marks i;
+          failed = flagsOf (arrayCleared g (flagAt r));
+        }
 
-  by-parity : 0 ≡ numberOf r (length a) (length n) l rebuild → ((i : ℕ) → getD l i 0 < 256) → (parity : Bool) → parityFailed g (st .failed) ≡ parity
-      → Answered (lent r a n l) rebuild 0 (lent (rebuiltRecord r parity) (rebuiltTo (lent r a n l) parity (g .s)) n (rebuiltList parity l))
-  unfolding work choose
-  by-parity e bytes false t =
-      record {
-        number = e;
-        done = λ _. subst (λ (s : State). Leaves g s (lent (withCleared r) (rebuiltTo (lent r a n l) false (g .s)) n l)) (rebuilt-sound t) (sound-leaves e bytes);
-        refused = λ z. absurd (z refl);
-      }
-  by-parity e bytes true t =
-      record {
-        number = e;
-        done = λ _.
-            subst (λ (s : State). Leaves g s (lent (withListed (withMode (withCleared r) 0) 0) (rebuiltTo (lent r a n l) true (g .s)) n (replicate (length l) 255))) (rebuilt-parity t)
-            (parity-leaves e);
-        refused = λ z. absurd (z refl);
-      }
+    after-log : n ≡ logOf g (rebuilt g st)
+    unfolding rebuilt settled stateOf
+    after-log = log-is g (rebuilt g st) n (passed e .log) (λ i _. refl)
 
-  pub rebuild-answered : 0 ≡ numberOf r (length a) (length n) l rebuild → ((i : ℕ) → getD l i 0 < 256) → (parity : Bool) → parity ≡ parityFailed (r .geometry) (flagAt r)
-      → (r' : Shelf) (a' l' : List ℕ) → a' ≡ rebuiltTo (lent r a n l) parity (r .geometry .s) → r' ≡ rebuiltRecord r parity → l' ≡ rebuiltList parity l
-      → Answered (lent r a n l) rebuild 0 (lent r' a' n l')
-  rebuild-answered e bytes parity t r' a' l' ea er el =
-      subst (λ (h : Lent). Answered (lent r a n l) rebuild 0 h) (sym (λ i. record { shelf = er i; array = ea i; log = n; list = el i }))
-      (by-parity e bytes parity (unfold stateOf in sym t))
+    after-list : HoldsList g (rebuilt g st) k l'
+    unfolding rebuilt stateOf
+    after-list = afresh-says g st (parityFailedAt r) (passed e .range) (r .listed) k l l' before-says W _ _ _
+
+    after-leaves : Leaves g (rebuilt g st) (lent (rebuiltRecord r made k) (rebuiltTo (lent r a n l) (g .s)) n l')
+    after-leaves =
+        leaves-by g (rebuilt g st) (rebuiltRecord r made k) (rebuiltTo (lent r a n l) (g .s)) n l' (passed e .range) after-record
+        (rebuilt-reads r a n l (two-failed (passed e)) (rebuild-asks e .ready)) after-log after-list bytes
+
+    pub rebuild-answered : (r' : Shelf) (a' : List ℕ) → a' ≡ rebuiltTo (lent r a n l) (r .geometry .s) → r' ≡ rebuiltRecord r made k → Answered (lent r a n l) rebuild 0 (lent r' a' n l')
+    unfolding work
+    rebuild-answered r' a' ea er =
+        record {
+          number = e;
+          done = λ _. subst (λ (h : Lent). Leaves g (rebuilt g st) h) (sym (λ i. record { shelf = er i; array = ea i; log = n; list = l' })) after-leaves;
+          refused = λ z. absurd (z refl);
+        }

@@ -2,11 +2,11 @@
 -- gives, so each is filled with what a read gives of the array as it was; and parity is that of the blocks filled.
 -- Assumes nothing.
 use mathlib.Core.Bool.{Bool, true, false, not, _&&_}
-use mathlib.Core.List.{List, _++_}
+use mathlib.Core.List.{List}
 use mathlib.Core.Logic.{_≢_, _⊎_, inl, inr, ⊎-elim}
 use mathlib.Core.Option.{Option, none, some}
 use mathlib.Core.Path.{_≡_, refl, sym, ap, ap₂, _∙_, subst}
-use Prim.Native.Nat.{ℕ, zero, suc, _+_, _*_, _-_, _≤_, _<_}
+use Prim.Native.Nat.{ℕ, zero, suc, _+_, _*_, _≤_, _<_}
 use native.Mathlib.Decide.{ℕ-discrete, decLt}
 use native.Mathlib.Omega.{arith}
 use lib.Dec.{eqb, ltb}
@@ -17,14 +17,14 @@ use Rattle.stripe.specs.Parity.{solved}
 use Rattle.stripe.specs.Places.{place, parityMade}
 use Rattle.stripe.proofs.Laws.{fits, place-lt, place-inj, place-other, put-block, block-whole, block-put-same, block-put-other, length-put, getD-block, solved-ignores, second-filled, getD-gen, gen-ext}
 use Rattle.shelf.specs.Counting.{choose, count, any, first}
-use Rattle.shelf.specs.Members.{roleP, memberAt, addressOf, column, blockP, blockQ, otherMissing, workedBack}
+use Rattle.shelf.specs.Members.{roleP, memberAt, placeAt, addressOf, column, blockP, blockQ, otherMissing, workedBack}
 use Rattle.shelf.specs.State.{State, listed}
-use Rattle.shelf.specs.Calls.{orElse, original, missing, blockAt}
+use Rattle.shelf.specs.Calls.{settled, orElse, original, missing, blockAt, rebuilt}
 use Rattle.shelf.specs.Words.{words}
 use Rattle.shelf.specs.HashList.{noneWord, said, lookup}
 use Rattle.shelf.specs.Lent.{Lent, lent, flagAt, oriBy, curBy, listedBy, stateOf, arrayBlock, arrayLength, roleBlock}
 use Rattle.shelf.specs.Reading.{ListReady, Ready, latest, missingBy, solvedBlock, lostBlock, servedBlock}
-use Rattle.shelf.specs.Rebuilding.{Rebuildable, Lost, FilledBelow, stillMissing, withArray, filledAt, filledTo, stripeRebuilt, rebuiltTo}
+use Rattle.shelf.specs.Rebuilding.{Rebuildable, Lost, FilledBelow, parityFailedAt, stillMissing, withArray, filledAt, filledTo, stripeRebuilt, rebuiltTo}
 use Rattle.shelf.specs.declared.record.Geometry.{Geometry}
 use Rattle.shelf.specs.declared.record.Shelf.{Shelf}
 use Rattle.shelf.proofs.general.TestLaws.{cases, clash, choose-true, choose-false, and-left}
@@ -54,7 +54,7 @@ pub still-there : (i y : ℕ) → i ≤ y → y ≡ stillMissing i y
 still-there i y h = sym (choose-false (ltb y i) i y (le-ltb y i h))
 
 -- a block that is put where it stands
-pub filled-by : (r : Shelf) (a n l : List ℕ) (x i k : ℕ) (v o : List ℕ) → k ≡ place (r .geometry .d) (r .geometry .s) x i → o ≡ put (r .geometry .b) k v a
+pub filled-by : (r : Shelf) (a n l : List ℕ) (x i k : ℕ) (v o : List ℕ) → k ≡ placeAt (r .geometry) x i → o ≡ put (r .geometry .b) k v a
     → v ≡ servedBlock (lent r a n l) x i → o ≡ filledAt (lent r a n l) x i
 unfolding filledAt
 filled-by r a n l x i k v o ek eo ev = eo ∙ ap₂ (λ (m : ℕ) (w : List ℕ). put (r .geometry .b) m w a) ek ev
@@ -63,22 +63,22 @@ filled-by r a n l x i k v o ek eo ev = eo ∙ ap₂ (λ (m : ℕ) (w : List ℕ)
 pub filled-sound : (r : Shelf) (a n l : List ℕ) → Ready (lent r a n l) → (x i : ℕ) → x < r .geometry .s → i < r .geometry .d
     → flagAt r (memberAt (r .geometry) x i) ≡ false → a ≡ filledAt (lent r a n l) x i
 filled-sound r a n l R x i hx hi t =
-    filled-by r a n l x i (place (r .geometry .d) (r .geometry .s) x i) (block (r .geometry .b) (place (r .geometry .d) (r .geometry .s) x i) a) a refl
-    (sym (put-block (r .geometry .b) (place (r .geometry .d) (r .geometry .s) x i) a
-    (fits (place (r .geometry .d) (r .geometry .s) x i) ((r .geometry .d + 2) * r .geometry .s) (r .geometry .b) a (R .array)
-    (place-lt (r .geometry .d) (r .geometry .s) x i hx (omega arith)))))
+    filled-by r a n l x i (placeAt (r .geometry) x i) (block (r .geometry .b) (placeAt (r .geometry) x i) a) a refl
+    (sym (put-block (r .geometry .b) (placeAt (r .geometry) x i) a
+    (fits (placeAt (r .geometry) x i) ((r .geometry .d + 2) * r .geometry .s) (r .geometry .b) a (R .array)
+    (place-lt (r .geometry .layout) (r .geometry .d) (r .geometry .s) x i hx (omega arith)))))
     (given-sound r a n l R x hx i t)
 
 -- its place lies within the array
 pub place-room : (r : Shelf) (a n l : List ℕ) → Ready (lent r a n l) → (x i k : ℕ) → x < r .geometry .s → i < r .geometry .d
-    → k ≡ place (r .geometry .d) (r .geometry .s) x i → k * r .geometry .b + r .geometry .b ≤ length a
+    → k ≡ placeAt (r .geometry) x i → k * r .geometry .b + r .geometry .b ≤ length a
 place-room r a n l R x i k hx hi e =
     subst (λ (m : ℕ). m * r .geometry .b + r .geometry .b ≤ length a) (sym e) (place-fits r a n l R x hx i hi)
 
 -- a block that is worked back and copied
 pub filled-lost : (r : Shelf) (a n l : List ℕ) → Ready (lent r a n l) → (x i k v : ℕ) (u o : List ℕ) → x < r .geometry .s → flagAt r (memberAt (r .geometry) x i) ≡ true
     → v ≡ latest (words l) (r .geometry) (addressOf (r .geometry) x i) → v ≡ noneWord → length u ≡ r .geometry .b → u ≡ lostBlock (lent r a n l) x i
-    → k ≡ place (r .geometry .d) (r .geometry .s) x i → o ≡ put (r .geometry .b) k (block (r .geometry .b) 0 u) a → o ≡ filledAt (lent r a n l) x i
+    → k ≡ placeAt (r .geometry) x i → o ≡ put (r .geometry .b) k (block (r .geometry .b) 0 u) a → o ≡ filledAt (lent r a n l) x i
 filled-lost r a n l R x i k v u o hx t ev z long e ek eo =
     filled-by r a n l x i k (block (r .geometry .b) 0 u) o ek eo (block-whole (r .geometry .b) u long ∙ e ∙ given-lost r a n l R x hx i t v ev z)
 
@@ -92,26 +92,26 @@ filled-more h x i a o ea eo =
     let q : suc i ≡ i + 1 = omega arith in
     eo ∙ ap (λ (z : List ℕ). filledAt (withArray h z) x i) ea ∙ ap (filledTo h x) q
 
-pub stripe-sound : (h : Lent) (parity : Bool) (x : ℕ) (a : List ℕ) → parity ≡ false → a ≡ filledTo h x (h .shelf .geometry .d) → a ≡ stripeRebuilt h parity x
+pub stripe-sound : (h : Lent) (x : ℕ) (a : List ℕ) → parityFailedAt (h .shelf) x ≡ false → a ≡ filledTo h x (h .shelf .geometry .d) → a ≡ stripeRebuilt h x
 unfolding stripeRebuilt
-stripe-sound h parity x a t e = e ∙ sym (choose-false parity _ (filledTo h x (h .shelf .geometry .d)) t)
+stripe-sound h x a t e = e ∙ sym (choose-false (parityFailedAt (h .shelf) x) _ (filledTo h x (h .shelf .geometry .d)) t)
 
-pub stripe-parity : (h : Lent) (parity : Bool) (x : ℕ) (a o : List ℕ) → parity ≡ true → a ≡ filledTo h x (h .shelf .geometry .d)
-    → o ≡ parityMade (place (h .shelf .geometry .d) (h .shelf .geometry .s) x) (h .shelf .geometry .d) (h .shelf .geometry .b) a → o ≡ stripeRebuilt h parity x
+pub stripe-parity : (h : Lent) (x : ℕ) (a o : List ℕ) → parityFailedAt (h .shelf) x ≡ true → a ≡ filledTo h x (h .shelf .geometry .d)
+    → o ≡ parityMade (placeAt (h .shelf .geometry) x) (h .shelf .geometry .d) (h .shelf .geometry .b) a → o ≡ stripeRebuilt h x
 unfolding stripeRebuilt
-stripe-parity h parity x a o t e eo =
-    eo ∙ ap (λ (z : List ℕ). parityMade (place (h .shelf .geometry .d) (h .shelf .geometry .s) x) (h .shelf .geometry .d) (h .shelf .geometry .b) z) e
-    ∙ sym (choose-true parity _ (filledTo h x (h .shelf .geometry .d)) t)
+stripe-parity h x a o t e eo =
+    eo ∙ ap (λ (z : List ℕ). parityMade (placeAt (h .shelf .geometry) x) (h .shelf .geometry .d) (h .shelf .geometry .b) z) e
+    ∙ sym (choose-true (parityFailedAt (h .shelf) x) _ (filledTo h x (h .shelf .geometry .d)) t)
 
-pub rebuilt-start : (h : Lent) (parity : Bool) → h .array ≡ rebuiltTo h parity 0
+pub rebuilt-start : (h : Lent) → h .array ≡ rebuiltTo h 0
 unfolding rebuiltTo
-rebuilt-start h parity = refl
+rebuilt-start h = refl
 
-pub rebuilt-more : (h : Lent) (parity : Bool) (x : ℕ) (a o : List ℕ) → a ≡ rebuiltTo h parity x → o ≡ stripeRebuilt (withArray h a) parity x → o ≡ rebuiltTo h parity (x + 1)
+pub rebuilt-more : (h : Lent) (x : ℕ) (a o : List ℕ) → a ≡ rebuiltTo h x → o ≡ stripeRebuilt (withArray h a) x → o ≡ rebuiltTo h (x + 1)
 unfolding rebuiltTo
-rebuilt-more h parity x a o ea eo =
+rebuilt-more h x a o ea eo =
     let q : suc x ≡ x + 1 = omega arith in
-    eo ∙ ap (λ (z : List ℕ). stripeRebuilt (withArray h z) parity x) ea ∙ ap (rebuiltTo h parity) q
+    eo ∙ ap (λ (z : List ℕ). stripeRebuilt (withArray h z) x) ea ∙ ap (rebuiltTo h) q
 
 -- ---- the block that a read gives does not hang on failed members' blocks
 
@@ -305,8 +305,8 @@ module _ (r : Shelf) (a n l : List ℕ) (R : Rebuildable (lent r a n l)) (x : �
     (fill : FilledBelow (lent r a n l) x i) (lost : Lost r l x i) (bytes : (k : ℕ) → getD a k 0 < 256) where
   block-byte : (k j : ℕ) → j < r .geometry .b → getD (arrayBlock (r .geometry) a x k) j 0 < 256
   block-byte k j hj =
-      subst (λ (v : ℕ). v < 256) (sym (getD-block (r .geometry .b) (place (r .geometry .d) (r .geometry .s) x k) a j hj))
-      (bytes (place (r .geometry .d) (r .geometry .s) x k * r .geometry .b + j))
+      subst (λ (v : ℕ). v < 256) (sym (getD-block (r .geometry .b) (placeAt (r .geometry) x k) a j hj))
+      (bytes (placeAt (r .geometry) x k * r .geometry .b + j))
 
   alone : (y : ℕ) → y ≡ otherMissing (r .geometry) (missingBy r l x) i → y < i → (j : ℕ) → j < r .geometry .b
       → solved (r .geometry .d) i i (column (original (r .geometry) (stateOf (lent r a n l)) x) j)
@@ -342,7 +342,7 @@ pub record StripeFilled (g : Geometry) (row : ℕ → List ℕ) (a₀ : List ℕ
   pub here : (i : ℕ) → i < c → arrayBlock g a x i ≡ row i
   pub rest : (y i : ℕ) → y < g .s → i < g .d + 2 → (y ≢ x) ⊎ (c ≤ i) → arrayBlock g a y i ≡ arrayBlock g a₀ y i
 
--- stripe x of a is rebuilt from a₀: its data blocks are those of row, and where parity had failed, P and Q are theirs
+-- stripe x of a is rebuilt from a₀: its data blocks are those of row, and where parity was lost, P and Q are theirs
 pub record StripeMade (g : Geometry) (parity : Bool) (row : ℕ → List ℕ) (a₀ : List ℕ) (x : ℕ) (a : List ℕ) : Type 0 where
   pub long : length a ≡ length a₀
   pub here : (i : ℕ) → i < g .d → arrayBlock g a x i ≡ row i
@@ -352,11 +352,11 @@ pub record StripeMade (g : Geometry) (parity : Bool) (row : ℕ → List ℕ) (a
   pub others : (y i : ℕ) → y < g .s → i < g .d + 2 → y ≢ x → arrayBlock g a y i ≡ arrayBlock g a₀ y i
 
 -- blocks of different places
-apart : (d S y x i c : ℕ) → y < S → x < S → i < d + 2 → c < d + 2 → (y ≢ x) ⊎ (i ≢ c) → place d S y i ≢ place d S x c
-apart d S y x i c hy hx hi hc w e =
+apart : (layout d S y x i c : ℕ) → y < S → x < S → i < d + 2 → c < d + 2 → (y ≢ x) ⊎ (i ≢ c) → place layout d S y i ≢ place layout d S x c
+apart layout d S y x i c hy hx hi hc w e =
     elim (ℕ-discrete y x) [
-      | yes q ↦ ⊎-elim (λ ne. ne q) (λ ne. ne (place-inj d S x i c hx hi hc (ap (λ (z : ℕ). place d S z i) (sym q) ∙ e))) w
-      | no ne ↦ place-other d S y x i c hy hx ne e
+      | yes q ↦ ⊎-elim (λ ne. ne q) (λ ne. ne (place-inj layout d S x i c hx hi hc (ap (λ (z : ℕ). place layout d S z i) (sym q) ∙ e))) w
+      | no ne ↦ place-other layout d S y x i c hy hx ne e
     ]
 
 module _ (r : Shelf) (n l : List ℕ) (two : count (r .geometry .d + 2) (flagAt r) ≤ 2) (a : List ℕ) (R : Ready (lent r a n l)) (x : ℕ) (hx : x < r .geometry .s) where
@@ -379,17 +379,17 @@ module _ (r : Shelf) (n l : List ℕ) (two : count (r .geometry .d + 2) (flagAt 
         | no p ↦ F .rest x j hx hj (inr (omega arith))
       ]) c hc in
       let size : length (servedBlock (lent r b n l) x c) ≡ g .b = given-length r b n l R' x hx c hc in
-      let room : (y i : ℕ) → y < g .s → i < g .d + 2 → place (g .d) (g .s) y i * g .b + g .b ≤ length b =
-      λ y i hy hi. fits (place (g .d) (g .s) y i) ((g .d + 2) * g .s) (g .b) b (F .long ∙ R .array) (place-lt (g .d) (g .s) y i hy hi) in
+      let room : (y i : ℕ) → y < g .s → i < g .d + 2 → placeAt g y i * g .b + g .b ≤ length b =
+      λ y i hy hi. fits (placeAt g y i) ((g .d + 2) * g .s) (g .b) b (F .long ∙ R .array) (place-lt (g .layout) (g .d) (g .s) y i hy hi) in
       let stays : (y i : ℕ) → y < g .s → i < g .d + 2 → (y ≢ x) ⊎ (i ≢ c)
-      → arrayBlock g (put (g .b) (place (g .d) (g .s) x c) v b) y i ≡ arrayBlock g b y i =
-      λ y i hy hi w. block-put-other (g .b) (place (g .d) (g .s) x c) (place (g .d) (g .s) y i) b v (room x c hx (omega arith)) (room y i hy hi) size
-      (apart (g .d) (g .s) y x i c hy hx hi (omega arith) w) in
+      → arrayBlock g (put (g .b) (placeAt g x c) v b) y i ≡ arrayBlock g b y i =
+      λ y i hy hi w. block-put-other (g .b) (placeAt g x c) (placeAt g y i) b v (room x c hx (omega arith)) (room y i hy hi) size
+      (apart (g .layout) (g .d) (g .s) y x i c hy hx hi (omega arith) w) in
       record {
-        long = length-put (g .b) (place (g .d) (g .s) x c) b (room x c hx (omega arith)) v size ∙ F .long;
+        long = length-put (g .b) (placeAt g x c) b (room x c hx (omega arith)) v size ∙ F .long;
         here = λ i h. elim (ℕ-discrete i c) [
-          | yes z ↦ ap (λ (k : ℕ). arrayBlock g (put (g .b) (place (g .d) (g .s) x c) v b) x k) z
-              ∙ block-put-same (g .b) (place (g .d) (g .s) x c) b v (room x c hx (omega arith)) size ∙ is ∙ ap row (sym z)
+          | yes z ↦ ap (λ (k : ℕ). arrayBlock g (put (g .b) (placeAt g x c) v b) x k) z
+              ∙ block-put-same (g .b) (placeAt g x c) b v (room x c hx (omega arith)) size ∙ is ∙ ap row (sym z)
           | no z ↦ stays x i hx (omega arith) (inr z) ∙ F .here i (omega arith)
         ];
         rest = λ y i hy hi w.
@@ -412,9 +412,10 @@ module _ (r : Shelf) (n l : List ℕ) (two : count (r .geometry .d + 2) (flagAt 
         | no p ↦ F .rest x j hx hj (inr (omega arith))
       ]) k (omega arith))
 
-  stripe-is : (parity : Bool) → StripeMade g parity row a x (stripeRebuilt (lent r a n l) parity x)
-  unfolding stripeRebuilt choose
-  stripe-is false =
+  either-is : (parity : Bool)
+      → StripeMade g parity row a x (choose parity (parityMade (placeAt g x) (g .d) (g .b) (filledTo (lent r a n l) x (g .d))) (filledTo (lent r a n l) x (g .d)))
+  unfolding choose
+  either-is false =
       let F = filled-is (g .d) (omega arith) in
       record {
         long = F .long;
@@ -424,7 +425,7 @@ module _ (r : Shelf) (n l : List ℕ) (two : count (r .geometry .d + 2) (flagAt 
         q = λ e. clash e refl;
         others = λ y i hy hi ne. F .rest y i hy hi (inl ne);
       }
-  stripe-is true =
+  either-is true =
       let F = filled-is (g .d) (omega arith) in
       let b : List ℕ = filledTo (lent r a n l) x (g .d) in
       let W = rows b F in
@@ -441,6 +442,10 @@ module _ (r : Shelf) (n l : List ℕ) (two : count (r .geometry .d + 2) (flagAt 
       rows : (b : List ℕ) → StripeFilled g row a x (g .d) b → Rowed g (stateOf (lent r b n l)) x row b
       rows b F =
           unfold stateOf in record { long = F .long ∙ R .array; here = F .here; disk = λ y i hy ne hi. refl; p = λ y hy ne. refl; q = λ y hy ne. refl }
+
+  stripe-is : StripeMade g (parityFailedAt r x) row a x (stripeRebuilt (lent r a n l) x)
+  unfolding stripeRebuilt
+  stripe-is = either-is (parityFailedAt r x)
 
 pub below-so-far : (r : Shelf) (a n l : List ℕ) → Rebuildable (lent r a n l) → (x : ℕ) → x < r .geometry .s → (i : ℕ) → i ≤ r .geometry .d → (b : List ℕ)
     → b ≡ filledTo (lent r a n l) x i → FilledBelow (lent r b n l) x i
@@ -463,61 +468,63 @@ reads-here r a n l x i hi =
     let s = stateOf (lent r a n l) in
     by-role g (λ k. roleBlock g s x k ≡ arrayBlock g a x k) (λ k hk. role-data g s x k hk) (role-p g s x) (role-q g s x) i hi
 
--- t is the state rebuilt
-module _ (r : Shelf) (a n l : List ℕ) (two : count (r .geometry .d + 2) (flagAt r) ≤ 2) (R : Ready (lent r a n l)) (parity : Bool) (t : State)
-    (t-disk : (x i : ℕ) → t .disk x i ≡ servedBlock (lent r a n l) x i)
-    (sound-p : parity ≡ false → (x : ℕ) → t .p x ≡ stateOf (lent r a n l) .p x) (sound-q : parity ≡ false → (x : ℕ) → t .q x ≡ stateOf (lent r a n l) .q x)
-    (made-p : parity ≡ true → (x : ℕ) → t .p x ≡ blockP (r .geometry) (servedBlock (lent r a n l) x))
-    (made-q : parity ≡ true → (x : ℕ) → t .q x ≡ blockQ (r .geometry) (servedBlock (lent r a n l) x)) where
+module _ (r : Shelf) (a n l : List ℕ) (two : count (r .geometry .d + 2) (flagAt r) ≤ 2) (R : Ready (lent r a n l)) where
   abbrev s : State
   s = stateOf (lent r a n l)
 
+  -- the state rebuilt
+  abbrev after : State
+  after = rebuilt (r .geometry) (stateOf (lent r a n l))
+
   -- stripe k, from an array whose first k stripes are rebuilt
-  module _ (k : ℕ) (hk : k < r .geometry .s) (b : List ℕ) (U : RebuiltUpTo (r .geometry) s t k b) where
+  module _ (k : ℕ) (hk : k < r .geometry .s) (b : List ℕ) (U : RebuiltUpTo (r .geometry) s after k b) where
     abbrev o : List ℕ
-    o = stripeRebuilt (lent r b n l) parity k
+    o = stripeRebuilt (lent r b n l) k
 
     given-here : (i : ℕ) → i < r .geometry .d → servedBlock (lent r b n l) k i ≡ servedBlock (lent r a n l) k i
     given-here i hi = given-alike r n l two (R .listing) a b k (λ j hj _. U .left k j (omega arith) hk hj ∙ reads-here r a n l k j hj) i hi
 
-    made-here : StripeMade (r .geometry) parity (servedBlock (lent r b n l) k) b k (stripeRebuilt (lent r b n l) parity k)
-    made-here = stripe-is r n l two b (ready-with r a b n l R (U .long ∙ sym (R .array))) k hk parity
+    made-here : StripeMade (r .geometry) (parityFailedAt r k) (servedBlock (lent r b n l) k) b k (stripeRebuilt (lent r b n l) k)
+    made-here = stripe-is r n l two b (ready-with r a b n l R (U .long ∙ sym (R .array))) k hk
 
-    here-p : arrayBlock (r .geometry) o k (r .geometry .d) ≡ t .p k
+    here-p : arrayBlock (r .geometry) o k (r .geometry .d) ≡ after .p k
+    unfolding rebuilt settled stateOf choose
     here-p =
-        cases parity
-        (λ e. made-here .p e ∙ blockP-ext (r .geometry) (servedBlock (lent r b n l) k) (servedBlock (lent r a n l) k) given-here ∙ sym (made-p e k))
-        (λ e. made-here .sound e (r .geometry .d) (omega arith) (omega arith) ∙ U .left k (r .geometry .d) (omega arith) hk (omega arith) ∙ role-p (r .geometry) s k ∙ sym (sound-p e k))
+        cases (parityFailedAt r k)
+        (λ e. simp e (made-here .p e ∙ blockP-ext (r .geometry) (servedBlock (lent r b n l) k) (servedBlock (lent r a n l) k) given-here))
+        (λ e. simp e (made-here .sound e (r .geometry .d) (omega arith) (omega arith) ∙ U .left k (r .geometry .d) (omega arith) hk (omega arith) ∙ role-p (r .geometry) s k))
 
-    here-q : arrayBlock (r .geometry) o k (r .geometry .d + 1) ≡ t .q k
+    here-q : arrayBlock (r .geometry) o k (r .geometry .d + 1) ≡ after .q k
+    unfolding rebuilt settled stateOf choose
     here-q =
-        cases parity
-        (λ e. made-here .q e ∙ blockQ-ext (r .geometry) (servedBlock (lent r b n l) k) (servedBlock (lent r a n l) k) given-here ∙ sym (made-q e k))
-        (λ e. made-here .sound e (r .geometry .d + 1) (omega arith) (omega arith) ∙ U .left k (r .geometry .d + 1) (omega arith) hk (omega arith) ∙ role-q (r .geometry) s k ∙ sym (sound-q e k))
+        cases (parityFailedAt r k)
+        (λ e. simp e (made-here .q e ∙ blockQ-ext (r .geometry) (servedBlock (lent r b n l) k) (servedBlock (lent r a n l) k) given-here))
+        (λ e. simp e (made-here .sound e (r .geometry .d + 1) (omega arith) (omega arith) ∙ U .left k (r .geometry .d + 1) (omega arith) hk (omega arith) ∙ role-q (r .geometry) s k))
 
-    here : (i : ℕ) → i < r .geometry .d + 2 → arrayBlock (r .geometry) o k i ≡ roleBlock (r .geometry) t k i
+    here : (i : ℕ) → i < r .geometry .d + 2 → arrayBlock (r .geometry) o k i ≡ roleBlock (r .geometry) after k i
+    unfolding rebuilt settled
     here =
-        by-role (r .geometry) (λ i. arrayBlock (r .geometry) o k i ≡ roleBlock (r .geometry) t k i)
-        (λ i hi. made-here .here i hi ∙ given-here i hi ∙ sym (t-disk k i) ∙ sym (role-data (r .geometry) t k i hi))
-        (here-p ∙ sym (role-p (r .geometry) t k)) (here-q ∙ sym (role-q (r .geometry) t k))
+        by-role (r .geometry) (λ i. arrayBlock (r .geometry) o k i ≡ roleBlock (r .geometry) after k i)
+        (λ i hi. made-here .here i hi ∙ given-here i hi ∙ sym (role-data (r .geometry) after k i hi))
+        (here-p ∙ sym (role-p (r .geometry) after k)) (here-q ∙ sym (role-q (r .geometry) after k))
 
-    next-stripe : RebuiltUpTo (r .geometry) s t (suc k) (stripeRebuilt (lent r b n l) parity k)
+    next-stripe : RebuiltUpTo (r .geometry) s after (suc k) (stripeRebuilt (lent r b n l) k)
     next-stripe =
         record {
           long = made-here .long ∙ U .long;
           done = λ y i hy hs hi. elim (ℕ-discrete y k) [
-            | yes z ↦ ap (λ (w : ℕ). arrayBlock (r .geometry) o w i) z ∙ here i hi ∙ ap (λ (w : ℕ). roleBlock (r .geometry) t w i) (sym z)
+            | yes z ↦ ap (λ (w : ℕ). arrayBlock (r .geometry) o w i) z ∙ here i hi ∙ ap (λ (w : ℕ). roleBlock (r .geometry) after w i) (sym z)
             | no z ↦ made-here .others y i hs hi z ∙ U .done y i (omega arith) hs hi
           ];
           left = λ y i hy hs hi. made-here .others y i hs hi (λ z. omega arith) ∙ U .left y i (omega arith) hs hi;
         }
 
-  rebuilt-is : (k : ℕ) → k ≤ r .geometry .s → RebuiltUpTo (r .geometry) s t k (rebuiltTo (lent r a n l) parity k)
+  rebuilt-is : (k : ℕ) → k ≤ r .geometry .s → RebuiltUpTo (r .geometry) s after k (rebuiltTo (lent r a n l) k)
   unfolding rebuiltTo
   rebuilt-is zero h = record { long = R .array; done = λ y i hy hs hi. absurd (omega arith); left = λ y i hy hs hi. sym (reads-here r a n l y i hi) }
-  rebuilt-is (suc k) h = next-stripe k (omega arith) (rebuiltTo (lent r a n l) parity k) (rebuilt-is k (omega arith))
+  rebuilt-is (suc k) h = next-stripe k (omega arith) (rebuiltTo (lent r a n l) k) (rebuilt-is k (omega arith))
 
-  pub rebuilt-reads : HoldsArray (r .geometry) t (rebuiltTo (lent r a n l) parity (r .geometry .s))
+  pub rebuilt-reads : HoldsArray (r .geometry) after (rebuiltTo (lent r a n l) (r .geometry .s))
   rebuilt-reads =
       let U = rebuilt-is (r .geometry .s) (omega arith) in
       record { long = U .long; blocks = λ x i hx hi. sym (U .done x i hx hx hi) }

@@ -8,9 +8,9 @@ use native.Mathlib.Omega.{arith}
 use lib.Dec.{eqb, ltb}
 use lib.ListN.{length, getD, replicate}
 use borrow.Author.Tests.{eq-eqb, ne-eqb, lt-ltb, le-ltb}
-use Rattle.stripe.specs.Places.{place, parityMade, parityMadeAll}
+use Rattle.stripe.specs.Places.{parityMade, parityMadeAll}
 use Rattle.shelf.specs.Counting.{choose, first}
-use Rattle.shelf.specs.Members.{InRange}
+use Rattle.shelf.specs.Members.{InRange, placeAt}
 use Rattle.shelf.specs.State.{State, listed, stale, marksIn}
 use Rattle.shelf.specs.Status.{resync, fullResync}
 use Rattle.shelf.specs.Calls.{inMode, resyncStripe, made, remade, resynced, work}
@@ -128,7 +128,7 @@ module _ (r : Shelf) (a n l : List ℕ) where
 
   pub resync-made : length (r .failed) ≡ 19 → 0 ≡ numberOf r (length a) (length n) l resync → (t k : ℕ) → t ≡ first (r .geometry .s) (staleIn (words l) (r .geometry)) → t < r .geometry .s
       → (r' : Shelf) (a' l' : List ℕ) → r' ≡ withListed (withMode r 2) k
-      → a' ≡ parityMade (place (r .geometry .d) (r .geometry .s) t) (r .geometry .d) (r .geometry .b) a
+      → a' ≡ parityMade (placeAt (r .geometry) t) (r .geometry .d) (r .geometry .b) a
       → Rewritten (r .geometry) (dropStripe (r .geometry .d) t (entries (words l) (r .geometry))) l' k → ((i : ℕ) → getD l' i 0 < 256)
       → Answered (lent r a n l) resync 0 (lent r' a' n l') × (t ≡ toldStripe (lent r a n l) 0)
   unfolding work
@@ -188,7 +188,7 @@ all-asks r na nl l e =
 
 pub full-made : (r : Shelf) (a n l : List ℕ) → length (r .failed) ≡ 19 → 0 ≡ numberOf r (length a) (length n) l fullResync
     → (r' : Shelf) (a' l' : List ℕ) → r' ≡ withListed (withMode r 0) 0
-    → a' ≡ parityMadeAll (r .geometry .s) (place (r .geometry .d) (r .geometry .s)) (r .geometry .d) (r .geometry .b) a
+    → a' ≡ parityMadeAll (r .geometry .s) (placeAt (r .geometry)) (r .geometry .d) (r .geometry .b) a
     → l' ≡ replicate (length l) 255
     → Answered (lent r a n l) fullResync 0 (lent r' a' n l')
 unfolding work stateOf choose

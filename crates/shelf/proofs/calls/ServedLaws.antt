@@ -8,12 +8,14 @@ use mathlib.Core.Path.{_≡_, refl, sym, ap, ap₂, _∙_, subst}
 use Prim.Native.Nat.{ℕ, _+_, _*_, _-_, _/_, _%_, _≤_, _<_}
 use native.Mathlib.Nat.{mul-le-mul, mul-comm, div-lt-iff-lt-mul, mod-lt}
 use native.Mathlib.Omega.{arith}
-use native.Mathlib.Decide.{ℕ-discrete}
+use native.Mathlib.Decide.{ℕ-discrete, decLt}
 use lib.Dec.{eqb, ltb}
-use lib.ListN.{length, getD}
+use lib.ListN.{length, getD, set}
+use lib.Seq.{getD-set-same, getD-set-other}
 use borrow.Author.Tests.{lt-ltb, le-ltb, eq-eqb, ne-eqb, ltb-true, ltb-false, eqb-true, eqb-false}
+use Rattle.stripe.specs.Places.{Tabled}
 use Rattle.shelf.specs.Counting.{choose, any, first}
-use Rattle.shelf.specs.Members.{InRange, arrayMembers, memberAt, stripeOf, indexOf, addressOf, otherMissing}
+use Rattle.shelf.specs.Members.{InRange, arrayMembers, memberAt, placeAt, stripeOf, indexOf, addressOf, otherMissing}
 use Rattle.shelf.specs.State.{isSome, stale}
 use Rattle.shelf.specs.Status.{read, badAddress, badData, withheld, readWithheld, codeOf}
 use Rattle.shelf.specs.Calls.{orElse, work}
@@ -23,7 +25,6 @@ use Rattle.shelf.specs.Lent.{lent, stateOf, recordAt, oriBy, listedBy, f
 use Rattle.shelf.specs.Reading.{ListReady, Ready, latest, originalPlace, missingBy}
 use Rattle.shelf.specs.declared.record.Geometry.{Geometry}
 use Rattle.shelf.specs.declared.record.Shelf.{Shelf}
-use Rattle.stripe.specs.Places.{place}
 use Rattle.shelf.proofs.general.TestLaws.{cases, choose-true, choose-false, or-true, or-right, and-false, not-off, same-bool}
 use Rattle.shelf.proofs.hashlist.ListMarks.{listed-found}
 use Rattle.shelf.proofs.general.WalkLaws.{first-is, any-turn}
@@ -96,16 +97,52 @@ module _ (g : Geometry) (l : List ℕ) (x i : ℕ) where
   pub number-log : i < g .d → (v : ℕ) → v ≡ said (words l) g (addressOf g x i) .ori → v ≢ noneWord → (g .d + 2) * g .s + v ≡ originalPlace g l x i
   unfolding originalPlace
   number-log h v e n =
-      sym (choose-true (ltb i (g .d)) (orElse (oriBy g l x i) (λ r. arrayMembers g * g .s + r) (place (g .d) (g .s) x i)) (place (g .d) (g .s) x i) (lt-ltb i (g .d) h)
-      ∙ ap (λ (o : Option ℕ). orElse o (λ r. arrayMembers g * g .s + r) (place (g .d) (g .s) x i)) (ap recordAt (sym e) ∙ record-some v n))
+      sym (choose-true (ltb i (g .d)) (orElse (oriBy g l x i) (λ r. arrayMembers g * g .s + r) (placeAt g x i)) (placeAt g x i) (lt-ltb i (g .d) h)
+      ∙ ap (λ (o : Option ℕ). orElse o (λ r. arrayMembers g * g .s + r) (placeAt g x i)) (ap recordAt (sym e) ∙ record-some v n))
 
-  pub number-array : (i < g .d → said (words l) g (addressOf g x i) .ori ≡ noneWord) → place (g .d) (g .s) x i ≡ originalPlace g l x i
+  pub number-array : (i < g .d → said (words l) g (addressOf g x i) .ori ≡ noneWord) → placeAt g x i ≡ originalPlace g l x i
   unfolding originalPlace
   number-array h =
       cases (ltb i (g .d))
-      (λ t. sym (choose-true (ltb i (g .d)) (orElse (oriBy g l x i) (λ r. arrayMembers g * g .s + r) (place (g .d) (g .s) x i)) (place (g .d) (g .s) x i) t
-      ∙ ap (λ (o : Option ℕ). orElse o (λ r. arrayMembers g * g .s + r) (place (g .d) (g .s) x i)) (record-none _ (h (ltb-true i (g .d) t)))))
-      (λ t. sym (choose-false (ltb i (g .d)) (orElse (oriBy g l x i) (λ r. arrayMembers g * g .s + r) (place (g .d) (g .s) x i)) (place (g .d) (g .s) x i) t))
+      (λ t. sym (choose-true (ltb i (g .d)) (orElse (oriBy g l x i) (λ r. arrayMembers g * g .s + r) (placeAt g x i)) (placeAt g x i) t
+      ∙ ap (λ (o : Option ℕ). orElse o (λ r. arrayMembers g * g .s + r) (placeAt g x i)) (record-none _ (h (ltb-true i (g .d) t)))))
+      (λ t. sym (choose-false (ltb i (g .d)) (orElse (oriBy g l x i) (λ r. arrayMembers g * g .s + r) (placeAt g x i)) (placeAt g x i) t))
+
+-- a table of block numbers: of the originals below i, of the array's blocks from i on
+pub record Overlaid (g : Geometry) (l : List ℕ) (x i : ℕ) (ns : List ℕ) : Type 0 where
+  pub below : (k : ℕ) → k < i → getD ns k 0 ≡ originalPlace g l x k
+  pub above : (k : ℕ) → i ≤ k → k < g .d + 2 → getD ns k 0 ≡ placeAt g x k
+
+module _ (g : Geometry) (l : List ℕ) (x : ℕ) where
+  pub overlaid-start : (ns : List ℕ) → Tabled (g .d + 2) (placeAt g x) ns → Overlaid g l x 0 ns
+  overlaid-start ns t = record { below = λ k h. absurd (omega arith); above = λ k _ h. t k h }
+
+  -- an Ori's record is put in, or there is none
+  pub overlaid-log : (i v : ℕ) (ns : List ℕ) → i < g .d → i < length ns → v ≡ said (words l) g (addressOf g x i) .ori → v ≢ noneWord → Overlaid g l x i ns
+      → Overlaid g l x (i + 1) (set ns i ((g .d + 2) * g .s + v))
+  overlaid-log i v ns h low e n O =
+      record {
+        below = λ k p. elim (ℕ-discrete k i) [
+          | yes q ↦ ap (λ (m : ℕ). getD (set ns i ((g .d + 2) * g .s + v)) m 0) q ∙ getD-set-same ns i ((g .d + 2) * g .s + v) 0 low
+              ∙ number-log g l x i h v e n ∙ ap (originalPlace g l x) (sym q)
+          | no q ↦ getD-set-other ns i k ((g .d + 2) * g .s + v) 0 q ∙ O .below k (omega arith)
+        ];
+        above = λ k p q. getD-set-other ns i k ((g .d + 2) * g .s + v) 0 (λ z. omega arith) ∙ O .above k (omega arith) q;
+      }
+
+  pub overlaid-array : (i : ℕ) (ns : List ℕ) → i < g .d → said (words l) g (addressOf g x i) .ori ≡ noneWord → Overlaid g l x i ns → Overlaid g l x (i + 1) ns
+  overlaid-array i ns h e O =
+      record {
+        below = λ k p. elim (ℕ-discrete k i) [
+          | yes q ↦ O .above k (omega arith) (omega arith) ∙ ap (placeAt g x) q ∙ number-array g l x i (λ _. e) ∙ ap (originalPlace g l x) (sym q)
+          | no q ↦ O .below k (omega arith)
+        ];
+        above = λ k p q. O .above k (omega arith) q;
+      }
+
+  pub overlaid-all : (ns : List ℕ) → Overlaid g l x (g .d) ns → Tabled (g .d + 2) (originalPlace g l x) ns
+  overlaid-all ns O k h =
+      elim (decLt k (g .d)) [ yes p ↦ O .below k p | no p ↦ O .above k (omega arith) h ∙ number-array g l x k (λ q. absurd (p q)) ]
 
 -- ---- which originals are missing
 

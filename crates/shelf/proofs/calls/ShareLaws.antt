@@ -6,7 +6,8 @@ use mathlib.Core.Path.{_≡_, sym, _∙_, subst}
 use Prim.Native.Nat.{ℕ, _-_, _≤_, _<_}
 use native.Mathlib.Omega.{arith}
 use lib.Dec.{eqb}
-use Rattle.stripe.specs.Places.{place, parityMade}
+use Rattle.stripe.specs.Places.{parityMade}
+use Rattle.shelf.specs.Members.{placeAt}
 use Rattle.shelf.specs.State.{State, listed}
 use Rattle.shelf.specs.Calls.{nextLeft, settled, made, overwritten}
 use Rattle.shelf.specs.Words.{words}
@@ -59,7 +60,7 @@ module _ (r : Shelf) (l l' : List ℕ) (t k : ℕ) (R : ListReady r l) (ht : t <
     says = made-says g s t row (R .range) (r .listed) k l l' (H .list) W
 
     pub made-shows : (r' : Shelf) (a' : List ℕ) → r' ≡ withListed r k
-        → a' ≡ parityMade (place (r .geometry .d) (r .geometry .s) t) (r .geometry .d) (r .geometry .b)
+        → a' ≡ parityMade (placeAt (r .geometry) t) (r .geometry .d) (r .geometry .b)
         (newStored (r .geometry) t p src a)
         → Shows (r .geometry) (made (r .geometry) s t (overwritten w v (s .disk t))) (lent r' a' n l')
     unfolding made settled

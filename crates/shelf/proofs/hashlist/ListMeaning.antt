@@ -1,4 +1,4 @@
--- What a list says of each block address, of a list that passes number 3, of one whose entries of a stripe were dropped or replaced, and of
+-- What a list says of each block address, of a list that passes number 3, of one whose entries of some stripes were dropped or those of one replaced, and of
 -- one that is all none. What is above the list cites these laws.
 -- Assumes nothing.
 use mathlib.Core.Bool.{Bool, true, false, not, _&&_, and-true}
@@ -15,8 +15,8 @@ use Rattle.shelf.specs.declared.record.Geometry.{Geometry}
 use Rattle.shelf.specs.Counting.{choose, count, total}
 use Rattle.shelf.specs.Words.{words}
 use Rattle.shelf.specs.HashList.{noneWord, lookup, isRecord, valid, Entry, entry, entryIn, said, has, entries, putAll, encode, listedIn, staleIn}
-use Rattle.shelf.specs.Rewriting.{dropStripe, merged, at3, Segment, Rewritten}
-use Rattle.shelf.proofs.general.TestLaws.{either-way, clash, same-bool, and-both, and-false, choose-true, choose-false}
+use Rattle.shelf.specs.Rewriting.{dropStripes, dropStripe, merged, at3, Segment, Rewritten}
+use Rattle.shelf.proofs.general.TestLaws.{either-way, same-bool, not-on, and-both, and-false, choose-true, choose-false}
 use Rattle.shelf.proofs.general.AddressLaws.{stripe-of}
 use Rattle.shelf.proofs.general.CountLaws.{count-ext, count-zero, none-any, none-count, total-at, total-zero}
 use Rattle.shelf.proofs.hashlist.ChainLaws.{placeOf, length-putN, lookup-encode}
@@ -25,23 +25,23 @@ use Rattle.shelf.proofs.hashlist.EncodeLaws.{Fit, encode-valid, has-tru
 use Rattle.shelf.proofs.hashlist.FoundLaws.{fit-of, count-has, entries-rising, entries-fits, found-address, found-fit, has-listed, listed-has, listed-total}
 use Rattle.shelf.proofs.hashlist.EntryLaws.{merged-new, length-merged, drop-in, in-drop, drop-rising}
 use Rattle.shelf.proofs.hashlist.AlterLaws.{dropped, Altered, altered}
-use Rattle.shelf.proofs.hashlist.PickLaws.{pickE, looked, unlisted, pick-new, pick-gone, pick-others}
+use Rattle.shelf.proofs.hashlist.PickLaws.{pickE, looked, unlisted, pick-dropped, pick-kept, pick-new, pick-gone, pick-others}
 
 pub length-encode : (g : Geometry) (es : List Entry) → 0 < g .h → g .e ≤ 4096 → length (encode g es) ≡ g .h + 4 * g .e
 unfolding encode
 length-encode g es hpos small = length-putN (g .h) (g .e) hpos small 0 es
 
--- the addresses that entries have outside stripe k
-has-drop : (d k : ℕ) (es : List Entry) (b : ℕ) → has (dropStripe d k es) b ≡ (has es b && not (eqb (b / d) k))
-has-drop d k es b =
-    same-bool (has (dropStripe d k es) b) (has es b && not (eqb (b / d) k))
-    (λ t. let h = has-elim (dropStripe d k es) b t in
-    let r = drop-in d k (h .who) es (h .within) in
-    ap₂ (λ (x y : Bool). x && not y) (has-true es (h .who) b (r .0) (h .is)) (ne-eqb (b / d) k (λ z. r .1 (ap (λ (a : ℕ). a / d) (h .is) ∙ z))))
-    (λ t. let p = and-both (has es b) (not (eqb (b / d) k)) t in
+-- the addresses that entries have outside the stripes that pass the test t
+has-drop : (d : ℕ) (t : ℕ → Bool) (es : List Entry) (b : ℕ) → has (dropStripes d t es) b ≡ (has es b && not (t (b / d)))
+has-drop d t es b =
+    same-bool (has (dropStripes d t es) b) (has es b && not (t (b / d)))
+    (λ e. let h = has-elim (dropStripes d t es) b e in
+    let r = drop-in d t (h .who) es (h .within) in
+    ap₂ (λ (x y : Bool). x && not y) (has-true es (h .who) b (r .0) (h .is)) (ap (λ (a : ℕ). t (a / d)) (sym (h .is)) ∙ r .1))
+    (λ e. let p = and-both (has es b) (not (t (b / d))) e in
     let h = has-elim es b (p .0) in
-    has-true (dropStripe d k es) (h .who) b
-    (in-drop d k (h .who) es (h .within) (λ z. clash (p .1) (ap not (eq-eqb (b / d) k (ap (λ (a : ℕ). a / d) (sym (h .is)) ∙ z))))) (h .is))
+    has-true (dropStripes d t es) (h .who) b
+    (in-drop d t (h .who) es (h .within) (ap (λ (a : ℕ). t (a / d)) (h .is) ∙ not-on (t (b / d)) (p .1))) (h .is))
 
 -- ---- a list that passes number 3
 
@@ -132,16 +132,19 @@ module _ (w : List ℕ) (g : Geometry) (next listed : ℕ) (hpos : 0 < g .h) (dp
   unfolding staleIn
   nothing-stale z x hx = none-any (g .d) (listedIn w g x) (λ i hi. nothing-found z x i hx hi)
 
-  -- the addresses found outside stripe k are as many as the entries there
-  kept-total : (k : ℕ)
-      → countFrom (g .d * g .s) (λ b. ltb (lookup w g b) (g .e) && not (eqb (b / g .d) k)) 0 ≡ length (dropStripe (g .d) k (entries w g))
-  kept-total k =
+  -- the blocks found outside the stripes that pass the test t are as many as the entries there
+  kept-total : (t : ℕ → Bool)
+      → total (g .s) (λ x. count (g .d) (λ i. ltb (lookup w g (x * g .d + i)) (g .e) && not (t ((x * g .d + i) / g .d))))
+      ≡ length (dropStripes (g .d) t (entries w g))
+  kept-total t =
       let es : List Entry = entries w g in
-      let kept : List Entry = dropStripe (g .d) k (entries w g) in
-      countFrom-ext (g .d * g .s) (λ b. ltb (lookup w g b) (g .e) && not (eqb (b / g .d) k)) (λ b. has kept b) 0
-      (λ b. ap (λ (t : Bool). t && not (eqb (b / g .d) k)) (listed-has w g next listed hpos dpos small v b) ∙ sym (has-drop (g .d) k es b))
-      ∙ count-has (g .d * g .s) 0 kept (drop-rising 0 (g .d) k es (entries-rising w g next listed hpos dpos small v))
-      (λ x n. fit-of g next es es (entries-fits w g next listed hpos dpos small v) x (drop-in (g .d) k x es n .0) .below)
+      let left : List Entry = dropStripes (g .d) t (entries w g) in
+      let kept : ℕ → Bool = λ a. ltb (lookup w g a) (g .e) && not (t (a / g .d)) in
+      countFrom-rows (g .s) (g .d) kept ∙ ap (λ (n : ℕ). countFrom n kept 0) (mul-comm (g .s) (g .d))
+      ∙ countFrom-ext (g .d * g .s) kept (λ b. has left b) 0
+      (λ b. ap (λ (q : Bool). q && not (t (b / g .d))) (listed-has w g next listed hpos dpos small v b) ∙ sym (has-drop (g .d) t es b))
+      ∙ count-has (g .d * g .s) 0 left (drop-rising 0 (g .d) t es (entries-rising w g next listed hpos dpos small v))
+      (λ x n. fit-of g next es es (entries-fits w g next listed hpos dpos small v) x (drop-in (g .d) t x es n .0) .below)
 
   -- the entries of the other stripes and those of stripe k are all
   pub kept-count : (k : ℕ) → k < g .s
@@ -149,8 +152,7 @@ module _ (w : List ℕ) (g : Geometry) (next listed : ℕ) (hpos : 0 < g .h) (dp
   kept-count k o =
       let there : ℕ → Bool = λ a. ltb (lookup w g a) (g .e) in
       let kept : ℕ → Bool = λ a. ltb (lookup w g a) (g .e) && not (eqb (a / g .d) k) in
-      let all : total (g .s) (λ x. count (g .d) (λ i. kept (x * g .d + i))) ≡ length (dropStripe (g .d) k (entries w g)) =
-      countFrom-rows (g .s) (g .d) kept ∙ ap (λ (n : ℕ). countFrom n kept 0) (mul-comm (g .s) (g .d)) ∙ kept-total k in
+      let all : total (g .s) (λ x. count (g .d) (λ i. kept (x * g .d + i))) ≡ length (dropStripe (g .d) k (entries w g)) = kept-total (λ x. eqb x k) in
       let others =
       total-at (g .s) (λ x. count (g .d) (λ i. kept (x * g .d + i))) (λ x. count (g .d) (λ i. there (x * g .d + i))) k o
       (λ x _ ne. count-ext (g .d) (λ i. kept (x * g .d + i)) (λ i. there (x * g .d + i))
@@ -186,13 +188,13 @@ length-none : (es : List Entry) → length es ≡ 0 → es ≡ []
 length-none [] e = refl
 length-none (x ∷ xs) e = absurd (omega arith)
 
--- ---- stripe k's entries dropped: l is the list after, n its count
+-- ---- the entries of the stripes that pass the test t dropped: l is the list after, n its count
 
 module _ (w : List ℕ) (g : Geometry) (next listed : ℕ) (hpos : 0 < g .h) (dpos : 0 < g .d) (small : g .e ≤ 4096) (v : valid w g next listed ≡ true)
-    (k n : ℕ) (l : List ℕ) (r : Rewritten g (dropStripe (g .d) k (entries w g)) l n) where
+    (t : ℕ → Bool) (n : ℕ) (l : List ℕ) (r : Rewritten g (dropStripes (g .d) t (entries w g)) l n) where
   pub dropped-valid : valid (words l) g next n ≡ true
   dropped-valid =
-      ap₂ (λ (u : List ℕ) (j : ℕ). valid u g next j) (r .1 .0) (r .1 .1) ∙ dropped w g next listed k hpos dpos small v .passes
+      ap₂ (λ (u : List ℕ) (j : ℕ). valid u g next j) (r .1 .0) (r .1 .1) ∙ dropped w g next listed t hpos dpos small v .passes
 
   -- with next 0 where no entry is left
   pub dropped-left : valid (words l) g (choose (eqb n 0) 0 next) n ≡ true
@@ -201,31 +203,24 @@ module _ (w : List ℕ) (g : Geometry) (next listed : ℕ) (hpos : 0 < g .h) (dp
       (λ y.
       let z : n ≡ 0 = eqb-true n 0 y in
       ap₂ (λ (x j : ℕ). valid (words l) g x j) (choose-true (eqb n 0) 0 next y) z
-      ∙ ap (λ (u : List ℕ). valid u g 0 0) (r .1 .0 ∙ ap (encode g) (length-none (dropStripe (g .d) k (entries w g)) (sym (r .1 .1) ∙ z)))
+      ∙ ap (λ (u : List ℕ). valid u g 0 0) (r .1 .0 ∙ ap (encode g) (length-none (dropStripes (g .d) t (entries w g)) (sym (r .1 .1) ∙ z)))
       ∙ none-valid g 0 hpos small)
       (λ y. ap (λ (x : ℕ). valid (words l) g x n) (choose-false (eqb n 0) 0 next y) ∙ dropped-valid)
       (either-way (eqb n 0))
 
-  dropped-entries : entries (words l) g ≡ dropStripe (g .d) k (entries w g)
-  dropped-entries = ap (λ (u : List ℕ). entries u g) (r .1 .0) ∙ dropped w g next listed k hpos dpos small v .stands
+  after : (a : ℕ) → said (words l) g a ≡ pickE (dropStripes (g .d) t (entries w g)) a
+  after a =
+      sym (said-entries (words l) g next n hpos dpos small dropped-valid a)
+      ∙ ap (λ (es : List Entry). pickE es a) (ap (λ (u : List ℕ). entries u g) (r .1 .0) ∙ dropped w g next listed t hpos dpos small v .stands)
 
-  after : (a : ℕ) → said (words l) g a ≡ pickE (dropStripe (g .d) k (entries w g)) a
-  after a = sym (said-entries (words l) g next n hpos dpos small dropped-valid a) ∙ ap (λ (es : List Entry). pickE es a) dropped-entries
+  -- the addresses of those stripes are no longer listed
+  pub dropped-gone : (a : ℕ) → t (a / g .d) ≡ true → said (words l) g a ≡ entry a noneWord noneWord
+  dropped-gone a q = after a ∙ pick-dropped (g .d) t (entries w g) a q
 
-  nothing : Segment (g .d) k 0 []
-  nothing = record { stripe = λ j o. absurd (omega arith); up = λ i j o h. absurd (omega arith) }
-
-  pub dropped-gone : (a : ℕ) → a / g .d ≡ k → said (words l) g a ≡ entry a noneWord noneWord
-  unfolding merged
-  dropped-gone a q =
-      after a ∙ pick-gone (g .d) k 0 [] (entries w g) (entries-rising w g next listed hpos dpos small v) nothing a q
-      (λ j o. absurd (omega arith))
-
-  pub dropped-kept : (a : ℕ) → a / g .d ≢ k → said (words l) g a ≡ said w g a
-  unfolding merged
+  -- the other stripes are as before
+  pub dropped-kept : (a : ℕ) → t (a / g .d) ≡ false → said (words l) g a ≡ said w g a
   dropped-kept a q =
-      after a ∙ pick-others (g .d) k 0 [] (entries w g) (entries-rising w g next listed hpos dpos small v) nothing a q
-      ∙ said-entries w g next listed hpos dpos small v a
+      after a ∙ pick-kept (g .d) t (entries w g) (entries-rising w g next listed hpos dpos small v) a q ∙ said-entries w g next listed hpos dpos small v a
 
 -- ---- stripe k's entries replaced by the c entries of y: l is the list after, n its count
 

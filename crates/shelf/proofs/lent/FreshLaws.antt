@@ -8,9 +8,8 @@ use native.Mathlib.Omega.{arith}
 use lib.ListN.{length, getD, replicate, length-replicate}
 use lib.Seq.{ext-getD}
 use Rattle.stripe.specs.Blocks.{block, gen}
-use Rattle.stripe.specs.Places.{place}
 use Rattle.stripe.proofs.Laws.{length-block, getD-block, length-gen, getD-gen, fits, place-lt}
-use Rattle.shelf.specs.Members.{InRange, blank, addressOf}
+use Rattle.shelf.specs.Members.{InRange, blank, addressOf, placeAt}
 use Rattle.shelf.specs.State.{freshState, listed, isSome}
 use Rattle.shelf.specs.Book.{freshBook}
 use Rattle.shelf.specs.Words.{words}
@@ -89,7 +88,7 @@ fresh-leaves g Y =
       shelf = λ i. record { geometry = g; mode = 0; next = 0; listed = sym (no-marks g) i; failed = replicate 19 false };
       array = array-is g (freshState g) (replicate (arrayLength g) 0) (Y .s-least) (length-replicate (arrayLength g) 0)
           (λ x i hx hi.
-          let blanks : blank g ≡ arrayBlock g (replicate (arrayLength g) 0) x i = sym (block-zeros g (place (g .d) (g .s) x i) ((g .d + 2) * g .s) (place-lt (g .d) (g .s) x i hx hi)) in
+          let blanks : blank g ≡ arrayBlock g (replicate (arrayLength g) 0) x i = sym (block-zeros g (placeAt g x i) ((g .d + 2) * g .s) (place-lt (g .layout) (g .d) (g .s) x i hx hi)) in
           by-role g (λ j. roleBlock g (freshState g) x j ≡ blank g) (λ j hj. role-data g (freshState g) x j hj) (role-p g (freshState g) x) (role-q g (freshState g) x) i hi ∙ blanks);
       log = log-is g (freshState g) (replicate (logLength g) 0) (length-replicate (logLength g) 0) (λ r hr. sym (block-zeros g r (g .l) hr));
       list = list-laid g (freshState g) 0 (formatted g .list) Y (fresh-says g Y) (none-below g);

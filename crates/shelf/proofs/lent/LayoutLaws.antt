@@ -13,7 +13,7 @@ use lib.Seq.{ext-getD}
 use borrow.Author.Tests.{lt-ltb, le-ltb, eq-eqb, ne-eqb, eqb-true}
 use Rattle.stripe.specs.Blocks.{block, byteOf, blocksOf}
 use Rattle.stripe.specs.Places.{place, memberOf}
-use Rattle.stripe.proofs.Laws.{member-inj, member-onto, place-lt, fits, length-block, getD-block, ext-block, length-blocksOf, byteOf-blocksOf}
+use Rattle.stripe.proofs.Laws.{one-to-one, place-lt, fits, length-block, getD-block, ext-block, length-blocksOf, byteOf-blocksOf}
 use Rattle.shelf.specs.Counting.{choose, first}
 use Rattle.shelf.specs.Members.{roleP, memberAt}
 use Rattle.shelf.specs.State.{State}
@@ -48,11 +48,11 @@ role-back : (g : Geometry) (x i : ℕ) → i < g .d + 2 → roleOf g x (memberAt
 unfolding roleOf
 role-back g x i h =
     let f = first-found (g .d + 2) (λ k. eqb (memberAt g x k) (memberAt g x i)) (any-some (g .d + 2) (λ k. eqb (memberAt g x k) (memberAt g x i)) i h (eq-eqb (memberAt g x i) (memberAt g x i) refl)) in
-    member-inj (g .d) x (first (g .d + 2) (λ k. eqb (memberAt g x k) (memberAt g x i))) i (f .0) h (eqb-true (memberAt g x (first (g .d + 2) (λ k. eqb (memberAt g x k) (memberAt g x i)))) (memberAt g x i) (f .1))
+    one-to-one (g .layout) (g .d) x .own (first (g .d + 2) (λ k. eqb (memberAt g x k) (memberAt g x i))) i (f .0) h (eqb-true (memberAt g x (first (g .d + 2) (λ k. eqb (memberAt g x k) (memberAt g x i)))) (memberAt g x i) (f .1))
 
 role-there : (g : Geometry) (x m : ℕ) → m < g .d + 2 → (roleOf g x m < g .d + 2) × (memberAt g x (roleOf g x m) ≡ m)
 role-there g x m h =
-    let o = member-onto (g .d) x m h in
+    let o = one-to-one (g .layout) (g .d) x .onto m h in
     let e : roleOf g x m ≡ o .0 = ap (roleOf g x) (sym (o .2)) ∙ role-back g x (o .0) (o .1) in
     (subst (λ (k : ℕ). k < g .d + 2) (sym e) (o .1), ap (memberAt g x) e ∙ o .2)
 
@@ -72,12 +72,12 @@ pub array-back : (g : Geometry) (s : State) (x i : ℕ) → x < g .s → i < g .
 unfolding arrayOf place
 array-back g s x i hx hi e =
     let f : ℕ → List ℕ = λ n. roleBlock g s (n % g .s) (roleOf g (n % g .s) (n / g .s)) in
-    let n : ℕ = memberOf (g .d) x i * g .s + x in
+    let n : ℕ = memberOf (g .layout) (g .d) x i * g .s + x in
     let q : roleBlock g s (n % g .s) (roleOf g (n % g .s) (n / g .s)) ≡ roleBlock g s x i =
-    ap₂ (λ (y m : ℕ). roleBlock g s y (roleOf g y m)) (number-stripe (g .s) (memberOf (g .d) x i) x hx) (number-member (g .s) (memberOf (g .d) x i) x hx)
+    ap₂ (λ (y m : ℕ). roleBlock g s y (roleOf g y m)) (number-stripe (g .s) (memberOf (g .layout) (g .d) x i) x hx) (number-member (g .s) (memberOf (g .layout) (g .d) x i) x hx)
     ∙ ap (roleBlock g s x) (role-back g x i hi) in
-    block-blocksOf ((g .d + 2) * g .s) (g .b) (λ k. roleBlock g s (k % g .s) (roleOf g (k % g .s) (k / g .s))) (memberOf (g .d) x i * g .s + x)
-    (unfold place in place-lt (g .d) (g .s) x i hx hi) (ap length q ∙ e) ∙ q
+    block-blocksOf ((g .d + 2) * g .s) (g .b) (λ k. roleBlock g s (k % g .s) (roleOf g (k % g .s) (k / g .s))) (memberOf (g .layout) (g .d) x i * g .s + x)
+    (unfold place in place-lt (g .layout) (g .d) (g .s) x i hx hi) (ap length q ∙ e) ∙ q
 
 -- an array whose blocks are a state's is what the state is laid out as
 pub array-is : (g : Geometry) (s : State) (a : List ℕ) → 0 < g .s → length a ≡ arrayLength g

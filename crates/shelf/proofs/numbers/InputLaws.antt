@@ -32,7 +32,7 @@ inside low high x e =
 pub in-range : (g : Geometry) → badMeasures g ≡ false → InRange g
 unfolding badMeasures
 in-range g bad =
-    let t6 : Bool = outside 1 4096 (g .e) in
+    let t6 : Bool = outside 1 4096 (g .e) || ltb 1 (g .layout) in
     let t5 : Bool = outside 1 256 (g .h) || t6 in
     let t4 : Bool = outside 1 65536 (g .l) || t5 in
     let t3 : Bool = outside 1 4096 (g .b) || t4 in
@@ -41,12 +41,14 @@ in-range g bad =
     let e3 : t3 ≡ false = or-right (outside 1 65536 (g .s)) t3 e2 in
     let e4 : t4 ≡ false = or-right (outside 1 4096 (g .b)) t4 e3 in
     let e5 : t5 ≡ false = or-right (outside 1 65536 (g .l)) t5 e4 in
+    let e6 : t6 ≡ false = or-right (outside 1 256 (g .h)) t6 e5 in
     let d = inside 2 16 (g .d) (or-left (outside 2 16 (g .d)) t2 bad) in
     let s = inside 1 65536 (g .s) (or-left (outside 1 65536 (g .s)) t3 e2) in
     let b = inside 1 4096 (g .b) (or-left (outside 1 4096 (g .b)) t4 e3) in
     let l = inside 1 65536 (g .l) (or-left (outside 1 65536 (g .l)) t5 e4) in
     let h = inside 1 256 (g .h) (or-left (outside 1 256 (g .h)) t6 e5) in
-    let e = inside 1 4096 (g .e) (or-right (outside 1 256 (g .h)) t6 e5) in
+    let e = inside 1 4096 (g .e) (or-left (outside 1 4096 (g .e)) (ltb 1 (g .layout)) e6) in
+    let layout = ltb-false 1 (g .layout) (or-right (outside 1 4096 (g .e)) (ltb 1 (g .layout)) e6) in
     record {
       d-least = d .0;
       d-most = d .1;
@@ -60,6 +62,7 @@ in-range g bad =
       h-most = h .1;
       e-least = e .0;
       e-most = e .1;
+      layout-most = omega arith;
     }
 
 -- and back
@@ -71,7 +74,8 @@ unfolding badMeasures
 measures-fine g Y =
     ap₂ _||_ (fits-in 2 16 (g .d) (Y .d-least) (Y .d-most)) (ap₂ _||_ (fits-in 1 65536 (g .s) (Y .s-least) (Y .s-most))
     (ap₂ _||_ (fits-in 1 4096 (g .b) (Y .b-least) (Y .b-most)) (ap₂ _||_ (fits-in 1 65536 (g .l) (Y .l-least) (Y .l-most))
-    (ap₂ _||_ (fits-in 1 256 (g .h) (Y .h-least) (Y .h-most)) (fits-in 1 4096 (g .e) (Y .e-least) (Y .e-most))))))
+    (ap₂ _||_ (fits-in 1 256 (g .h) (Y .h-least) (Y .h-most)) (ap₂ _||_ (fits-in 1 4096 (g .e) (Y .e-least) (Y .e-most))
+    (le-ltb 1 (g .layout) (Y .layout-most)))))))
 
 -- products of measures in range are no large numbers
 pub array-small : (g : Geometry) → InRange g → ((g .d + 2) * g .s ≤ 1179648) × ((g .d + 2) * g .s * g .b ≤ 4831838208)

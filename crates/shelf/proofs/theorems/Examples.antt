@@ -12,7 +12,7 @@ use Rattle.field.specs.Field.{double, pow2, timesLow, times, raised, inverse}
 use Rattle.stripe.specs.Blocks.{from, gen, block, byteOf, blocksOf}
 use Rattle.stripe.specs.Parity.{pick, sum, one, weight, parityP, parityQ, without, restP, restQ, fromP, fromQ, fromBoth, solved, dataSolved, recovered}
 use Rattle.stripe.specs.Parity as parity
-use Rattle.stripe.specs.Places.{memberOf, place}
+use Rattle.stripe.specs.Places.{memberAfter, rotatingP, rotatingQ, rotatingData, rotating, fixed, memberOf, place}
 use Rattle.stripe.specs.Calls.{changed, eachColumn, badMeasures, badLength, badMember, accepted, makeCode, makeBuffer, recoverCode, recoverBuffer}
 use Rattle.shelf.specs.Counting.{choose, bit, count, total, any, first, lesser, setAt}
 use Rattle.shelf.specs.Members.{logMember, roleP, roleQ, memberAt, addressOf, blank, blockP, blockQ, otherMissing, workedBack, stripeOf, indexOf}
@@ -41,7 +41,7 @@ Holds (e ∷ es) = (e .got ≡ e .want) × Holds es
 
 -- a shelf of d data disks and two stripes: blocks of one byte, a log of four records, a list of two slots and four places
 abbrev pub small : ℕ → Geometry
-small d = record { d = d; s = 2; b = 1; l = 4; h = 2; e = 4 }
+small d = record { d = d; s = 2; b = 1; l = 4; h = 2; e = 4; layout = 0 }
 
 -- what calls leave, one after another
 unfoldable pub afterAll : Geometry → List Call → State → State
@@ -113,7 +113,7 @@ examples =
     []
 
 pub all-hold : Holds examples
-unfolding badMeasures badLength badMember makeCode recoverCode accepted makeBuffer recoverBuffer double pow2 timesLow times raised inverse from gen block byteOf blocksOf changed eachColumn pick sum one weight parityP parityQ parity.made without restP restQ fromP fromQ fromBoth solved dataSolved recovered memberOf choose bit count total any first lesser setAt blank blockP blockQ otherMissing workedBack isSome freshState row codeOf settled made remade appendOne append logged writeStripe writeTo blockAt resynced rebuilt work after afterAll readBuffer
+unfolding badMeasures badLength badMember makeCode recoverCode accepted makeBuffer recoverBuffer double pow2 timesLow times raised inverse from gen block byteOf blocksOf changed eachColumn pick sum one weight parityP parityQ parity.made without restP restQ fromP fromQ fromBoth solved dataSolved recovered fixed memberOf choose bit count total any first lesser setAt blank blockP blockQ otherMissing workedBack isSome freshState row codeOf settled made remade appendOne append logged writeStripe writeTo blockAt resynced rebuilt work after afterAll readBuffer
 all-hold = (refl, (refl, (refl, (refl, (refl, (refl, (refl, (refl, (refl, (refl, (refl, (refl, (refl, tt)))))))))))))
 
 -- ---- the printed session
@@ -176,8 +176,63 @@ byBook g (l ∷ ls) b =
 
 -- shelf and book both give the lines as they are printed
 pub as-printed : (byShelf (small 3) printed (freshState (small 3)) ≡ printed) × (byBook (small 3) printed (freshBook (small 3)) ≡ printed)
-unfolding double pow2 timesLow times raised inverse from gen block blocksOf pick sum one weight parityP parityQ without restP restQ fromP fromQ fromBoth solved memberOf choose bit count total any first lesser setAt blank blockP blockQ otherMissing workedBack isSome freshState row codeOf settled made remade appendOne append logged writeStripe writeTo blockAt resynced rebuilt work after readBuffer freshBook closed marked usedThen markStripe markTo bookWork bookAfter firstByte byShelf byBook
+unfolding double pow2 timesLow times raised inverse from gen block blocksOf pick sum one weight parityP parityQ without restP restQ fromP fromQ fromBoth solved fixed memberOf choose bit count total any first lesser setAt blank blockP blockQ otherMissing workedBack isSome freshState row codeOf settled made remade appendOne append logged writeStripe writeTo blockAt resynced rebuilt work after readBuffer freshBook closed marked usedThen markStripe markTo bookWork bookAfter firstByte byShelf byBook
 as-printed = (refl, refl)
+
+-- ---- sessions in the rotating layout: d 2, s stripes, blocks of one byte
+
+abbrev pub turning : ℕ → Geometry
+turning s = record { d = 2; s = s; b = 1; l = 8; h = 2; e = 4; layout = 1 }
+
+-- Member 3 has P of stripe 0, Q of stripe 1 and data index 0 of stripe 2. All three are stale when it is rebuilt, and stripe 2 stays so. Member 2 has
+-- data index 1 of stripe 0, P of stripe 1 and Q of stripe 2: with the log failed too, it is rebuilt, and the list ends empty.
+abbrev pub threeKinds : List Line
+threeKinds =
+    line start 0 1 0 0 0 ∷
+    line (write 0 1 (7 ∷ [])) 0 1 1 2 0 ∷
+    line (write 2 1 (8 ∷ [])) 0 1 2 4 0 ∷
+    line (write 4 1 (9 ∷ [])) 0 1 3 6 0 ∷
+    line (fail 3) 0 1 3 6 0 ∷
+    line (read 4 1 1) 0 1 3 6 9 ∷
+    line rebuild 0 1 1 6 0 ∷
+    line (fail 2) 0 1 1 6 0 ∷
+    line (fail 4) 0 2 1 6 0 ∷
+    line (read 4 1 1) 0 2 1 6 9 ∷
+    line rebuild 0 0 0 0 0 ∷
+    line newLog 0 0 0 0 0 ∷
+    line (fail 0) 0 0 0 0 0 ∷
+    line (read 2 1 1) 0 0 0 0 8 ∷
+    []
+
+-- Member 0 has data index 1 of stripe 2: with the log failed too, the stale stripe's block is withheld, though it has Q of stripe 0.
+abbrev pub withheldThere : List Line
+withheldThere =
+    line start 0 1 0 0 0 ∷
+    line (write 4 1 (9 ∷ [])) 0 1 1 2 0 ∷
+    line (fail 0) 0 1 1 2 0 ∷
+    line (fail 4) 0 2 1 2 0 ∷
+    line (read 5 1 1) 14 2 1 2 0 ∷
+    line (read 4 1 1) 0 2 1 2 9 ∷
+    line rebuild 14 2 1 2 0 ∷
+    []
+
+-- Of two stripes member 1 has neither P nor Q, so the mode remains; member 3 has P of one and Q of the other.
+abbrev pub fewStripes : List Line
+fewStripes =
+    line start 0 1 0 0 0 ∷
+    line (fail 1) 0 1 0 0 0 ∷
+    line rebuild 0 1 0 0 0 ∷
+    line (fail 3) 0 1 0 0 0 ∷
+    line rebuild 0 0 0 0 0 ∷
+    []
+
+-- shelf and book both give these lines
+abbrev pub Runs : ℕ → List Line → Type 0
+Runs s ls = (byShelf (turning s) ls (freshState (turning s)) ≡ ls) × (byBook (turning s) ls (freshBook (turning s)) ≡ ls)
+
+pub as-turned : Runs 3 threeKinds × (Runs 3 withheldThere × Runs 2 fewStripes)
+unfolding double pow2 timesLow times raised inverse from gen block blocksOf pick sum one weight parityP parityQ without restP restQ fromP fromQ fromBoth solved memberAfter rotatingP rotatingQ rotatingData rotating memberOf choose bit count total any first lesser setAt blank blockP blockQ otherMissing workedBack isSome freshState row codeOf settled made remade appendOne append logged writeStripe writeTo blockAt resynced rebuilt work after readBuffer freshBook closed marked usedThen markStripe markTo bookWork bookAfter firstByte byShelf byBook
+as-turned = ((refl, refl), ((refl, refl), (refl, refl)))
 
 -- ---- the session's shelf as bytes
 
@@ -295,6 +350,6 @@ onBytes =
     []
 
 pub bytes-hold : Holds onBytes
-unfolding block byteOf from gen blocksOf memberOf place choose bit count total any first lesser setAt blank blockP blockQ otherMissing workedBack isSome freshState row codeOf settled made appendOne append logged writeStripe writeTo blockAt work after afterAll words bytesOf seek lookup entriesFrom entries putFront putAll encode rises has hasAll isRecord goodWords goodEntry allGood same valid said recordAt stateOf rows.badMeasures badRecord badLengths triesList inputRows numberOf flagsFrom roleOf arrayOf logOf wordOf entriesOf listOf readBuffer formatCode formatted
+unfolding block byteOf from gen blocksOf fixed memberOf place choose bit count total any first lesser setAt blank blockP blockQ otherMissing workedBack isSome freshState row codeOf settled made appendOne append logged writeStripe writeTo blockAt work after afterAll words bytesOf seek lookup entriesFrom entries putFront putAll encode rises has hasAll isRecord goodWords goodEntry allGood same valid said recordAt stateOf rows.badMeasures badRecord badLengths triesList inputRows numberOf flagsFrom roleOf arrayOf logOf wordOf entriesOf listOf readBuffer formatCode formatted
 bytes-hold =
     (refl, (refl, (refl, (refl, (refl, (refl, (refl, (refl, (refl, (refl, (refl, (refl, (refl, (refl, (refl, (refl, (refl, tt)))))))))))))))))

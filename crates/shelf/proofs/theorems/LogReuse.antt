@@ -14,7 +14,7 @@ use Rattle.shelf.specs.Counting.{any, setAt}
 use Rattle.shelf.specs.Members.{logMember}
 use Rattle.shelf.specs.State.{Log, State, isSome, listed, marksIn, lowestStale}
 use Rattle.shelf.specs.Status.{Call, start, fail, write, read, resync, rebuild, newLog, fullResync, row}
-use Rattle.shelf.specs.Calls.{inMode, withFlags, settled, dropped, made, remade, logs, overwritten, logged, writeStripe, written, given, writeTo, resynced, blockAt, parityFailed, arrayCleared, rebuilt, modeWithout, work}
+use Rattle.shelf.specs.Calls.{inMode, withFlags, settled, made, remade, logs, overwritten, logged, writeStripe, written, given, writeTo, resynced, rebuilt, modeWithout, work}
 use Rattle.shelf.specs.declared.record.Geometry.{Geometry}
 use Rattle.shelf.proofs.general.TestLaws.{cases, choose-true, choose-false}
 use Rattle.shelf.proofs.agreement.ListedLaws.{no-marks}
@@ -44,16 +44,19 @@ module _ (g : Geometry) (s : State) where
       let n : t .log .next ≡ s .log .next = ap (λ (l : Log). l .next) e in
       inl (omega (arith, n), λ r _. ap (λ (l : Log). l .value r) e)
 
+  -- a state with the same log values and next free record, settled
+  settled-kept : (t : State) → t .log .next ≡ s .log .next → t .log .value ≡ s .log .value → LogKept g s (settled g t)
+  unfolding settled
+  settled-kept t e v =
+      let left : ℕ = marksIn g (listed (t .log)) in
+      cases (eqb left 0)
+      (λ z. inr (eqb-true left 0 z, choose-true (eqb left 0) 0 (t .log .next) z))
+      (λ z. inl (omega (arith, choose-false (eqb left 0) 0 (t .log .next) z, e), λ r _. ap (λ (u : ℕ → List ℕ). u r) v))
+
   -- a stripe made afresh
   pub made-kept : (t : ℕ) (row : ℕ → List ℕ) → LogKept g s (made g s t row)
-  unfolding made settled
-  made-kept t row =
-      cases (eqb left 0)
-      (λ z. inr (eqb-true left 0 z, choose-true (eqb left 0) 0 (s .log .next) z))
-      (λ z. inl (omega (arith, choose-false (eqb left 0) 0 (s .log .next) z), λ r _. refl))
-    where
-      left : ℕ
-      left = marksIn g (listed (dropped (s .log) t))
+  unfolding made
+  made-kept t row = settled-kept _ refl refl
 
   -- a logged stripe takes the records that follow
   pub logged-kept : (t : ℕ) (w : ℕ → Bool) (v : ℕ → List ℕ) → LogKept g s (logged g s t w v)
@@ -90,11 +93,6 @@ records-kept g resync s =
     cases (ltb t (g .s))
     (λ y. rw (choose-true (ltb t (g .s)) (made g (inMode s 2) t (s .disk t)) (inMode s 0) y) (made-kept g (inMode s 2) t (s .disk t)))
     (λ y. rw (choose-false (ltb t (g .s)) (made g (inMode s 2) t (s .disk t)) (inMode s 0) y) (same-log g s (inMode s 0) refl))
-records-kept g rebuild s =
-    let f = arrayCleared g (s .failed) in
-    let kept : State = record { disk = blockAt g s; p = s .p; q = s .q; log = s .log; mode = s .mode; failed = f } in
-    cases (parityFailed g (s .failed))
-    (λ y. rw (choose-true (parityFailed g (s .failed)) (remade g s (blockAt g s) f) kept y) (remade-kept g s (blockAt g s) f))
-    (λ y. rw (choose-false (parityFailed g (s .failed)) (remade g s (blockAt g s) f) kept y) (same-log g s kept refl))
+records-kept g rebuild s = settled-kept g s _ refl refl
 records-kept g newLog s = same-log g s (withFlags s (setAt (logMember g) false (s .failed))) refl
 records-kept g fullResync s = remade-kept g s (s .disk) (s .failed)

@@ -3,7 +3,7 @@
 -- Assumes nothing.
 use mathlib.Core.Bool.{Bool, true, false, _&&_, _||_}
 use mathlib.Core.Logic.{_≢_}
-use mathlib.Core.Option.{Option, none}
+use mathlib.Core.Option.{Option}
 use mathlib.Core.Path.{_≡_, refl, sym, ap, ap₂, _∙_, subst}
 use Prim.Native.Nat.{ℕ, zero, suc, _+_, _≤_, _<_}
 use native.Mathlib.Decide.{ℕ-discrete}
@@ -11,10 +11,10 @@ use native.Mathlib.Omega.{arith}
 use lib.Dec.{eqb, ltb, leb}
 use lib.ListN.{length}
 use borrow.Author.Tests.{eq-eqb, ne-eqb, lt-ltb, le-ltb, eqb-true, ltb-false}
-use Rattle.shelf.specs.Counting.{bit, any, setAt}
+use Rattle.shelf.specs.Counting.{choose, bit, any}
 use Rattle.shelf.specs.State.{State, isSome, listed, stale, marksIn, lowestStale, staleCount}
 use Rattle.shelf.specs.Status.{resync, arrayFailed, row, codeOf}
-use Rattle.shelf.specs.Calls.{inMode, resyncStripe, nextLeft, modeLeft, settled, dropped, made, resynced, work}
+use Rattle.shelf.specs.Calls.{inMode, resyncStripe, nextLeft, modeLeft, settled, made, resynced, work}
 use Rattle.shelf.specs.HashList.{valid}
 use Rattle.shelf.specs.Lent.{Lent, lent, flag, flagFrom, flagAt, stateOf, listedBy, recordOf, flagsOf, arrayOf, logOf, listOf, numberOf, inputRows, Leaves, Answered}
 use Rattle.shelf.specs.Showing.{HoldsList}
@@ -22,8 +22,8 @@ use Rattle.shelf.specs.Sequence.{Changed, Resyncs, stop, more}
 use Rattle.shelf.specs.declared.record.Geometry.{Geometry}
 use Rattle.shelf.specs.declared.record.Shelf.{Shelf}
 use Rattle.shelf.proofs.general.TestLaws.{cases, clash, and-fine, choose-true, choose-false}
-use Rattle.shelf.proofs.general.CountLaws.{setAt-other, setRow-here, setRow-other, count-ext, count-zero, count-mono, total-mono, any-ext, any-none, none-any, none-count, count-at, first-found}
-use Rattle.shelf.proofs.agreement.ListedLaws.{stale-ext, marks-none, none-marks}
+use Rattle.shelf.proofs.general.CountLaws.{count-ext, count-zero, any-ext, any-none, none-any, none-count, count-at, first-found}
+use Rattle.shelf.proofs.agreement.ListedLaws.{dropped-listed, stale-ext, marks-none, none-marks, dropped-fewer}
 use Rattle.shelf.proofs.numbers.InputLaws.{Fine, record-fine, fine-record, Passed, inputs-pass, passed-number}
 use Rattle.shelf.proofs.lent.LayoutLaws.{array-length, log-length, flag-back}
 use Rattle.shelf.proofs.lent.LeavesLaws.{marks-here}
@@ -43,15 +43,17 @@ some-stale g m n e =
     cases (any (g .s) (stale g m)) (λ t. t) (λ t. absurd (omega (arith, none-count (g .s) (stale g m) (any-none (g .s) (stale g m) t))))
 
 -- dropping the marks of the lowest stale stripe leaves one fewer
-one-fewer : (g : Geometry) (m : ℕ → ℕ → Bool) (n : ℕ) → staleCount g m ≡ suc n → staleCount g (setAt (lowestStale g m) (λ _. false) m) ≡ n
+one-fewer : (g : Geometry) (m : ℕ → ℕ → Bool) (n : ℕ) → staleCount g m ≡ suc n → staleCount g (λ x i. choose (eqb x (lowestStale g m)) false (m x i)) ≡ n
 unfolding bit
 one-fewer g m n e =
     let low : ℕ = lowestStale g m in
     let f = first-found (g .s) (stale g m) (some-stale g m n e) in
     let old : bit (stale g m low) ≡ 1 = ap bit (f .1) in
-    let new : bit (stale g (setAt low (λ _. false) m) low) ≡ 0 = ap bit (none-any (g .d) _ (λ i _. setRow-here low (λ _. false) m low i refl)) in
+    let left : ℕ → ℕ → Bool = λ x i. choose (eqb x low) false (m x i) in
+    let new : bit (stale g left low) ≡ 0 = ap bit (none-any (g .d) (left low) (λ i _. choose-true (eqb low low) false (m low i) (eq-eqb low low refl))) in
     let c =
-    count-at (g .s) (stale g (setAt low (λ _. false) m)) (stale g m) low (f .0) (λ x _ h. ap (any (g .d)) (setAt-other low (λ _. false) m x h)) in
+    count-at (g .s) (stale g left) (stale g m) low (f .0)
+    (λ x _ h. any-ext (g .d) (left x) (m x) (λ i _. choose-false (eqb x low) false (m x i) (ne-eqb x low h))) in
     omega (arith, c, old, new, e)
 
 -- ---- one resync of a state with n + 1 stale stripes
@@ -67,31 +69,12 @@ module _ (g : Geometry) (s : State) (n : ℕ) (e : staleCount g (listed (s .log)
   abbrev low : ℕ
   low = lowestStale g (listed (s .log))
 
-  gone : (x i : ℕ) → listed (dropped (s .log) low) x i ≡ setAt low (λ _. false) (listed (s .log)) x i
-  unfolding isSome
-  gone x i =
-      elim (ℕ-discrete x low) [
-        | yes q ↦ ap₂ (λ (o c : Option ℕ). isSome o || isSome c) (setRow-here low (λ _. none) (s .log .ori) x i q)
-            (setRow-here low (λ _. none) (s .log .cur) x i q) ∙ sym (setRow-here low (λ _. false) (listed (s .log)) x i q)
-        | no q ↦ ap₂ (λ (o c : Option ℕ). isSome o || isSome c) (setRow-other low (λ _. none) (s .log .ori) x i q)
-            (setRow-other low (λ _. none) (s .log .cur) x i q) ∙ sym (setRow-other low (λ _. false) (listed (s .log)) x i q)
-      ]
-
-  fewer-marks : marksIn g (listed (dropped (s .log) low)) ≤ marksIn g (listed (s .log))
-  fewer-marks =
-      total-mono (g .s) _ _ (λ x _. count-mono (g .d) _ _ (λ i _ t.
-      elim (ℕ-discrete x low) [
-        | yes q ↦ clash t (gone x i ∙ setRow-here low (λ _. false) (listed (s .log)) x i q)
-        | no q ↦ sym (setRow-other low (λ _. false) (listed (s .log)) x i q) ∙ sym (gone x i) ∙ t
-      ]))
-
   made-here : Resynced g s (made g (inMode s 2) low (s .disk low)) n
   unfolding made settled
   made-here =
       record {
-        stales = count-ext (g .s) _ _ (stale-ext g (listed (dropped (s .log) low)) (setAt low (λ _. false) (listed (s .log))) (λ x i _ _. gone x i))
-            ∙ one-fewer g (listed (s .log)) n e;
-        fewer = fewer-marks;
+        stales = count-ext (g .s) _ _ (stale-ext g _ _ (λ x i _ _. dropped-listed (s .log) (λ x. eqb x low) x i)) ∙ one-fewer g (listed (s .log)) n e;
+        fewer = dropped-fewer g (s .log) (λ x. eqb x low);
         mode = refl;
         next = refl;
         failed = refl;

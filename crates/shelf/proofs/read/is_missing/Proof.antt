@@ -1,10 +1,8 @@
 -- `shelf::read::is_missing` meets its contract.
 -- Assumes nothing.
-use mathlib.Core.Logic.{⊎-elim}
-use mathlib.Core.Path.{_∙_, ap, subst}
+use mathlib.Core.Path.{_∙_, subst}
 use Prim.Native.Nat.{ℕ, _≤_}
 use Rattle.shelf.proofs.calls.ServedLaws.{missing-listed, missing-else, address-low}
-use Rattle.shelf.specs.Lent.{flagAt}
 use borrow.Author.Needs.{needs}
 use native.Mathlib.Omega.{arith}
 use Rattle.shelf.proofs.read.is_missing.Statement.{statement}
@@ -37,19 +35,18 @@ returns c =
     let at-find = c .before .before .before .before in
     missing-listed (a .args .shelf) (a .args .list .now) (a .pre .0) (a .args .x) (a .args .i) (at-find .before .before .if1 .taken) (at-find .find .result) (c .word .result) (at-find .find .ensures) (c .before .before .if2 .taken) (c .word .ensures .0)
 
-member-requires : tie.Need-member-requires
-member-requires c κs = search needs
-
-has-failed-requires : tie.Need-has-failed-requires
-has-failed-requires c κs = search needs
-
 returns-2 : tie.Need-returns-2
 returns-2 c =
-    let a = c .before .before .before .before .before .before in
+    let a = c .before .before .before .before .before .before .before .before in
     let g = a .args .shelf .geometry in
-    c .has-failed .ensures ∙ ap (λ (m : ℕ). flagAt (a .args .shelf) m) (c .before .member .ensures .0)
+    a .pre .1 .1 .1
     ∙ missing-else (a .args .shelf) (a .args .list .now) (a .pre .0) (a .args .x) (a .args .i)
-    (λ h. ⊎-elim (λ w. subst (λ (p : ℕ). g .e ≤ p) (w .2 .ensures) (w .4 .left)) (λ w. absurd (omega (arith, w .left))) (c .before .before .if1 .came))
+    (λ h. subst (λ (p : ℕ). g .e ≤ p) (c .before .before .find .ensures) (c .if2 .left))
+
+returns-3 : tie.Need-returns-3
+returns-3 c =
+    let a = c .before .before .before .before in
+    a .pre .1 .1 .1 ∙ missing-else (a .args .shelf) (a .args .list .now) (a .pre .0) (a .args .x) (a .args .i) (λ h. absurd (omega (arith, c .if1 .left)))
 
 pub is-missing-spec : {M : Type 1} → statement M
 is-missing-spec =
@@ -63,6 +60,5 @@ is-missing-spec =
     add-word-2
     word-requires
     returns
-    member-requires
-    has-failed-requires
-    returns-2)
+    returns-2
+    returns-3)

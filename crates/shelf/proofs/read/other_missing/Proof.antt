@@ -11,29 +11,36 @@ use Rattle.shelf.proofs.read.other_missing.Statement.{statement}
 use Rattle.shelf.proofs.read.other_missing.Tie as tie
 
 abbrev Inv-loop : tie.InvT-loop
-Inv-loop shelf list x i roles n₀ n = (n ≤ roles) × NoneBelow (missingBy shelf list x) i n
+Inv-loop shelf list x i roles lost n₀ n = (n ≤ roles) × NoneBelow (missingBy shelf list x) i n
 
 abbrev μ-loop : tie.MeasureT-loop
-μ-loop shelf list x i roles n₀ n = roles - n
+μ-loop shelf list x i roles lost n₀ n = roles - n
 
 array-members-requires : tie.Need-array-members-requires Inv-loop μ-loop
 array-members-requires c κs = search needs
 
+failed-roles-requires : tie.Need-failed-roles-requires Inv-loop μ-loop
+failed-roles-requires c κs = search needs
+
 loop-holds : tie.Need-loop-holds Inv-loop μ-loop
 loop-holds c =
-    let a = c .before .before .before .args in
+    let a = c .before .before .before .before .args in
     (zero-le, below-zero (missingBy (a .shelf) (a .list .now) (a .x)) (a .i))
+
+array-read-is-missing : tie.Need-array-read-is-missing Inv-loop μ-loop
+array-read-is-missing c = search needs
 
 is-missing-requires : tie.Need-is-missing-requires Inv-loop μ-loop
 is-missing-requires c κs =
-    let a = c .before .before .before .before .before .before in
-    (a .pre .0, (a .pre .1 .0, omega (arith, c .before .before .before .array-members .ensures)))
+    let a = c .before .before .before .before .before .before .before in
+    let low : c .before .before .loop .n < a .args .shelf .geometry .d + 2 = omega (arith, c .before .before .before .before .array-members .ensures, c .before .loop-test .taken) in
+    (a .pre .0, (a .pre .1 .0, (low, c .before .before .before .failed-roles .ensures (c .before .before .loop .n) low)))
 
 returns : tie.Need-returns Inv-loop μ-loop
 returns c =
-    let a = c .before .before .before .before .before .before .before .before .args in
+    let a = c .before .before .before .before .before .before .before .before .before .args in
     let at-loop = c .before .before .before .before .loop in
-    let low : at-loop .n < a .shelf .geometry .d + 2 = omega (arith, c .before .before .before .before .before .array-members .ensures, c .before .before .before .loop-test .taken) in
+    let low : at-loop .n < a .shelf .geometry .d + 2 = omega (arith, c .before .before .before .before .before .before .array-members .ensures, c .before .before .before .loop-test .taken) in
     other-found (a .shelf .geometry) (missingBy (a .shelf) (a .list .now) (a .x)) (a .i) (at-loop .n) low (at-loop .inv .1) (sym (c .before .is-missing .ensures) ∙ c .if2 .taken) (c .before .before .if1 .taken)
 
 add-n : tie.Need-add-n Inv-loop μ-loop
@@ -44,7 +51,7 @@ loop-less c = search needs
 
 loop-again : tie.Need-loop-again Inv-loop μ-loop
 loop-again c =
-    let a = c .before .before .before .before .before .before .args in
+    let a = c .before .before .before .before .before .before .before .args in
     let at-loop = c .before .before .loop in (
       omega arith,
       ⊎-elim
@@ -54,9 +61,9 @@ loop-again c =
 
 returns-2 : tie.Need-returns-2 Inv-loop μ-loop
 returns-2 c =
-    let a = c .before .before .before .before .before .args in
+    let a = c .before .before .before .before .before .before .args in
     let at-loop = c .before .loop in
-    let done : at-loop .n ≡ a .shelf .geometry .d + 2 = omega (arith, c .before .before .array-members .ensures) in
+    let done : at-loop .n ≡ a .shelf .geometry .d + 2 = omega (arith, c .before .before .before .array-members .ensures) in
     other-none (a .shelf .geometry) (missingBy (a .shelf) (a .list .now) (a .x)) (a .i) (subst (λ (k : ℕ). NoneBelow (missingBy (a .shelf) (a .list .now) (a .x)) (a .i) k) done (at-loop .inv .1))
 
 pub other-missing-spec : {M : Type 1} → statement M
@@ -66,7 +73,9 @@ other-missing-spec =
     Inv-loop
     μ-loop
     array-members-requires
+    failed-roles-requires
     loop-holds
+    array-read-is-missing
     is-missing-requires
     returns
     add-n

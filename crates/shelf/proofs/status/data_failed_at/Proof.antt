@@ -1,23 +1,25 @@
--- `shelf::status::data_failed_at` meets its contract. The loop's invariant: no data disk from the i-th on has failed.
+-- `shelf::status::data_failed_at` meets its contract. The loop's invariant: no data block from index i on is on a failed member.
 -- Assumes nothing.
-use mathlib.Core.Path.{_≡_, refl, sym, ap, _∙_}
+use mathlib.Core.Bool.{false}
+use mathlib.Core.Path.{_≡_, refl, sym, _∙_}
 use Prim.Native.Nat.{ℕ, _≤_, _-_}
 use native.Mathlib.Omega.{arith}
+use lib.ListN.{getD}
 use Rattle.shelf.specs.Counting.{any}
-use Rattle.shelf.specs.Lent.{flagAt}
-use Rattle.shelf.specs.Members.{memberAt}
-use Rattle.shelf.specs.Rebuilding.{dataFailedAt}
 use Rattle.shelf.proofs.general.WalkLaws.{any-zero}
-use Rattle.shelf.proofs.calls.RebuildLaws.{walk-hit, walk-miss}
+use Rattle.shelf.proofs.calls.RebuildLaws.{walk-hit, walk-miss, roles-any}
 use borrow.Author.Needs.{needs}
 use Rattle.shelf.proofs.status.data_failed_at.Statement.{statement}
 use Rattle.shelf.proofs.status.data_failed_at.Tie as tie
 
 abbrev Inv-loop : tie.InvT-loop
-Inv-loop shelf x d i₀ i = (i ≤ d) × (any i (λ k. flagAt shelf (memberAt (shelf .geometry) x k)) ≡ dataFailedAt shelf x)
+Inv-loop x lost i₀ i = (i ≤ i₀) × (any i (λ k. getD lost k false) ≡ any i₀ (λ k. getD lost k false))
 
 abbrev μ-loop : tie.MeasureT-loop
-μ-loop shelf x d i₀ i = i
+μ-loop x lost i₀ i = i
+
+failed-roles-requires : tie.Need-failed-roles-requires Inv-loop μ-loop
+failed-roles-requires c κs = search needs
 
 loop-holds : tie.Need-loop-holds Inv-loop μ-loop
 loop-holds c = (omega arith, refl)
@@ -25,15 +27,15 @@ loop-holds c = (omega arith, refl)
 sub-i : tie.Need-sub-i Inv-loop μ-loop
 sub-i c = search needs
 
-member-requires : tie.Need-member-requires Inv-loop μ-loop
-member-requires c κs = search needs
-
-has-failed-requires : tie.Need-has-failed-requires Inv-loop μ-loop
-has-failed-requires c κs = search needs
+array-read-if1 : tie.Need-array-read-if1 Inv-loop μ-loop
+array-read-if1 c = search needs
 
 returns : tie.Need-returns Inv-loop μ-loop
 returns c =
-    walk-hit (λ (k : ℕ). flagAt (c .before .before .before .before .before .args .shelf) (memberAt (c .before .before .before .before .before .args .shelf .geometry) (c .before .before .before .before .before .args .x) k)) (c .before .before .before .before .loop .i) (c .before .has-failed .result) (c .before .has-failed .ensures ∙ ap (λ (m : ℕ). flagAt (c .before .before .before .before .before .args .shelf) m) (c .before .before .member .ensures .0)) (c .before .before .before .loop-test .taken) (c .if1 .taken) ∙ c .before .before .before .before .loop .inv .1
+    let start = c .before .before .before .before in
+    let found = c .before .before .before .failed-roles in
+    walk-hit (λ (k : ℕ). getD (found .result) k false) (c .before .before .loop .i) _ refl (c .before .loop-test .taken) (c .if1 .taken)
+    ∙ c .before .before .loop .inv .1 ∙ roles-any (start .args .shelf) (start .args .x) (found .result) (found .ensures)
 
 loop-less : tie.Need-loop-less Inv-loop μ-loop
 loop-less c = search needs
@@ -41,11 +43,16 @@ loop-less c = search needs
 loop-again : tie.Need-loop-again Inv-loop μ-loop
 loop-again c = (
   omega arith,
-  walk-miss (λ (k : ℕ). flagAt (c .before .before .before .before .before .args .shelf) (memberAt (c .before .before .before .before .before .args .shelf .geometry) (c .before .before .before .before .before .args .x) k)) (c .before .before .before .before .loop .i) (c .before .has-failed .result) (c .before .has-failed .ensures ∙ ap (λ (m : ℕ). flagAt (c .before .before .before .before .before .args .shelf) m) (c .before .before .member .ensures .0)) (c .before .before .before .loop-test .taken) (c .if1 .left) ∙ c .before .before .before .before .loop .inv .1,
+  walk-miss (λ (k : ℕ). getD (c .before .before .before .failed-roles .result) k false) (c .before .before .loop .i) _ refl (c .before .loop-test .taken) (c .if1 .left)
+      ∙ c .before .before .loop .inv .1,
 )
 
 returns-2 : tie.Need-returns-2 Inv-loop μ-loop
-returns-2 c = sym (sym (c .before .loop .inv .1) ∙ any-zero (c .before .loop .i) (λ (k : ℕ). flagAt (c .before .before .args .shelf) (memberAt (c .before .before .args .shelf .geometry) (c .before .before .args .x) k)) (omega arith))
+returns-2 c =
+    let start = c .before .before .before in
+    let found = c .before .before .failed-roles in
+    sym (any-zero (c .before .loop .i) (λ (k : ℕ). getD (found .result) k false) (omega arith)) ∙ c .before .loop .inv .1
+    ∙ roles-any (start .args .shelf) (start .args .x) (found .result) (found .ensures)
 
 pub data-failed-at-spec : {M : Type 1} → statement M
 data-failed-at-spec =
@@ -53,10 +60,10 @@ data-failed-at-spec =
     (tie.spec
     Inv-loop
     μ-loop
+    failed-roles-requires
     loop-holds
     sub-i
-    member-requires
-    has-failed-requires
+    array-read-if1
     returns
     loop-less
     loop-again

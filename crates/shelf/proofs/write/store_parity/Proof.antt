@@ -3,7 +3,8 @@
 use mathlib.Core.List.{List}
 use mathlib.Core.Path.{_∙_, ap}
 use Prim.Native.Nat.{ℕ}
-use Rattle.stripe.specs.Places.{place, parityMade}
+use Rattle.stripe.specs.Places.{parityMade}
+use Rattle.shelf.specs.Members.{placeAt}
 use borrow.Author.Needs.{needs}
 use Rattle.shelf.proofs.write.store_parity.Statement.{statement}
 use Rattle.shelf.proofs.write.store_parity.Tie as tie
@@ -20,7 +21,7 @@ same-length c = search needs
 returns : tie.Need-returns
 returns c =
     let a = c .before .before .before .before .before .before .before .before .before .before .args in
-    c .before .before .make-parity .ensures ∙ ap (λ (z : List ℕ). parityMade (place (a .g .d) (a .g .s) (a .t)) (a .g .d) (a .g .b) z) (c .before .before .before .before .before .before .store-new .ensures)
+    c .before .before .make-parity .ensures ∙ ap (λ (z : List ℕ). parityMade (placeAt (a .g) (a .t)) (a .g .d) (a .g .b) z) (c .before .before .before .before .before .before .store-new .ensures)
 
 pub store-parity-spec : {M : Type 1} → statement M
 store-parity-spec =

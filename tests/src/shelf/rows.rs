@@ -1,0 +1,257 @@
+//! Where the blocks of a stripe stand where parity rotates, by rows of members worked out by hand; a shelf beside its
+//! twin whose parity is fixed; and layouts that are neither.
+
+use super::book::Book;
+use super::calls::{Buffer, Call, Measures, Shelf};
+use super::due::Due;
+use super::lists::pick;
+use super::pair::Pair;
+use super::roles;
+use super::script::{read, write};
+use super::sequences::next_call;
+use super::stand::Stand;
+use crate::random::Random;
+use crate::Outcome;
+
+/// The members that have data 0, data 1, P and Q of each stripe, from stripe 0 on, on a shelf of two data disks.
+const OF_TWO: [[usize; 4]; 9] = [
+    [1, 2, 3, 0],
+    [0, 1, 2, 3],
+    [3, 0, 1, 2],
+    [2, 3, 0, 1],
+    [1, 2, 3, 0],
+    [0, 1, 2, 3],
+    [3, 0, 1, 2],
+    [2, 3, 0, 1],
+    [1, 2, 3, 0],
+];
+
+/// The same of data 0 to 4, P and Q on a shelf of five data disks.
+const OF_FIVE: [[usize; 7]; 15] = [
+    [1, 2, 3, 4, 5, 6, 0],
+    [0, 1, 2, 3, 4, 5, 6],
+    [6, 0, 1, 2, 3, 4, 5],
+    [5, 6, 0, 1, 2, 3, 4],
+    [4, 5, 6, 0, 1, 2, 3],
+    [3, 4, 5, 6, 0, 1, 2],
+    [2, 3, 4, 5, 6, 0, 1],
+    [1, 2, 3, 4, 5, 6, 0],
+    [0, 1, 2, 3, 4, 5, 6],
+    [6, 0, 1, 2, 3, 4, 5],
+    [5, 6, 0, 1, 2, 3, 4],
+    [4, 5, 6, 0, 1, 2, 3],
+    [3, 4, 5, 6, 0, 1, 2],
+    [2, 3, 4, 5, 6, 0, 1],
+    [1, 2, 3, 4, 5, 6, 0],
+];
+
+/// How many pairs of twins are tried for each table: some with all its stripes, some with one; and the calls of a pair.
+const PAIRS: usize = 100;
+const CALLS: usize = 60;
+
+/// How many rebuilds twins of one stripe must come through.
+const REBUILDS: usize = 100;
+
+/// Layouts that are neither fixed nor rotating: next to these, ones that 8, 16, 31 or 32 bits take for them, and the
+/// greatest ones.
+const NEITHER: [usize; 16] = [
+    2,
+    3,
+    4,
+    255,
+    256,
+    257,
+    65536,
+    65537,
+    1 << 31,
+    u32::MAX as usize,
+    1 << 32,
+    (1 << 32) + 1,
+    1 << 63,
+    (1 << 63) + 1,
+    usize::MAX - 1,
+    usize::MAX,
+];
+
+/// Measures of a small shelf.
+fn measures(d: usize, s: usize, layout: usize, random: &mut Random) -> Measures {
+    let (b, l, h, e) = (1 + pick(3, random), 1 + pick(6 * d, random), 1 + pick(4, random), 1 + pick(3 * d, random));
+    Measures { d, s, b, l, h, e, layout }
+}
+
+/// Fails unless the model's walk and the book's distance from P both lead to the rows.
+fn known(d: usize, rows: &[&[usize]], random: &mut Random) -> Result<(), String> {
+    let m = measures(d, rows.len(), 1, random);
+    let book = Book::fresh(m);
+    for (stripe, row) in rows.iter().enumerate() {
+        let members = roles::members(m, stripe);
+        if members != *row {
+            return Err(format!("by the model {members:?} are the members of stripe {stripe}, not {row:?}"));
+        }
+        for (place, &member) in row.iter().enumerate() {
+            let (found, due) = (book.after_p(member, stripe), (place + 2) % (d + 2));
+            if found != due {
+                return Err(format!("by the book member {member} of stripe {stripe} is {found} after P, not {due}"));
+            }
+        }
+    }
+    Ok(())
+}
+
+/// Two shelves that get the same calls, and the rows that lead from the one whose parity is fixed to the one where it
+/// rotates.
+struct Twins<'a> {
+    rows: &'a [&'a [usize]],
+    fixed: Pair,
+    rotating: Pair,
+}
+
+impl Twins<'_> {
+    /// Fresh twins with as many stripes as there are rows.
+    fn fresh<'a>(
+        d: usize,
+        rows: &'a [&'a [usize]],
+        stand: &mut Stand,
+        random: &mut Random,
+    ) -> Result<Twins<'a>, String> {
+        let m = measures(d, rows.len(), 0, random);
+        let fixed = Pair::fresh(m, 99, stand)?;
+        let rotating = Pair::fresh(Measures { layout: 1, ..m }, 99, stand)?;
+        Ok(Twins { rows, fixed, rotating })
+    }
+
+    /// Makes a call on both; a member of the fixed one that fails is that of the same role on the rotating one, where
+    /// there is one stripe. Fails unless both answer and give the same and stay alike. Hands back the number.
+    fn step(&mut self, call: Call, data: Buffer, stand: &mut Stand) -> Result<usize, String> {
+        let turned = match call {
+            Call::Fail(member) => Call::Fail(self.rows[0].get(member).copied().unwrap_or(member)),
+            _ => call,
+        };
+        let code = self.fixed.step(call, data.clone(), stand)?;
+        let given = stand.data().to_vec();
+        let other = self.rotating.step(turned, data, stand)?;
+        if code != other || given != stand.data() {
+            return Err(format!("{call:?} answers {code} and {other}, or gives other data; {}", self.rotating.shelf));
+        }
+        self.spoil(code as u8);
+        self.alike().map_err(|fault| format!("after {call:?} {fault}; the shelf: {}", self.rotating.shelf))?;
+        Ok(code)
+    }
+
+    /// Overwrites the failed members of both with the same bytes.
+    fn spoil(&mut self, byte: u8) {
+        let Measures { d, b, .. } = self.fixed.shelf.record.measures;
+        for place in (0..d + 2).filter(|&place| self.fixed.shelf.record.failed[place] != 0) {
+            let byte = byte.wrapping_mul(37).wrapping_add(place as u8 + 1);
+            self.fixed.shelf.array.bytes[place * b..][..b].fill(byte);
+            self.rotating.shelf.array.bytes[self.rows[0][place] * b..][..b].fill(byte);
+        }
+    }
+
+    /// Fails unless the twins have the same mode, counts, log and list, and the same block in each role of each stripe.
+    fn alike(&self) -> Result<(), String> {
+        let (fixed, rotating) = (&self.fixed.shelf, &self.rotating.shelf);
+        let counts = |shelf: &Shelf| [shelf.record.mode, shelf.record.next, shelf.record.listed];
+        if counts(fixed) != counts(rotating) || fixed.log != rotating.log || fixed.list != rotating.list {
+            return Err("the twins have other counts, another log or another list".into());
+        }
+        for (stripe, row) in self.rows.iter().enumerate() {
+            for (place, &member) in row.iter().enumerate() {
+                if self.fixed.stored(place, stripe) != self.rotating.stored(member, stripe) {
+                    return Err(format!("member {member} of stripe {stripe} has not block {place}"));
+                }
+            }
+        }
+        Ok(())
+    }
+}
+
+/// Makes random calls on twins: members fail only where there is one stripe. Hands back how many rebuilds were
+/// accepted.
+fn twins(d: usize, rows: &[&[usize]], stand: &mut Stand, random: &mut Random) -> Result<usize, String> {
+    let mut twins = Twins::fresh(d, rows, stand, random)?;
+    let data = random.bytes(d * rows.len() * twins.fixed.shelf.record.measures.b);
+    twins.step(write(0, d * rows.len()), Buffer::of(data), stand)?;
+    let (is_busy, mut rebuilds) = (random.below(2) == 0, 0);
+    for _ in 0..CALLS {
+        let (call, data) = next_call(&twins.fixed.shelf, is_busy, random);
+        if rows.len() == 1 || !matches!(call, Call::Fail(_)) {
+            let code = twins.step(call, data, stand)?;
+            rebuilds += usize::from(call == Call::Rebuild && code == 0);
+        }
+    }
+    Ok(rebuilds)
+}
+
+/// Holds the rows of a table to the model, to the book, and to shelves beside their twins. Hands back how many rebuilds
+/// the twins of one stripe came through.
+fn table(d: usize, rows: &[&[usize]], stand: &mut Stand, random: &mut Random) -> Result<usize, String> {
+    known(d, rows, random)?;
+    let mut rebuilds = 0;
+    for _ in 0..PAIRS {
+        twins(d, rows, stand, random)?;
+        rebuilds += twins(d, &rows[..1], stand, random)?;
+    }
+    match rebuilds >= REBUILDS {
+        true => Ok(rebuilds),
+        false => Err(format!("twins came through {rebuilds} rebuilds, not {REBUILDS}")),
+    }
+}
+
+/// Shelves of two stripes, with the calls that are accepted: a fresh one, one in mode 1, one without a member, and one
+/// without its log.
+fn shelves(stand: &mut Stand) -> Result<Vec<(Shelf, Vec<Call>)>, String> {
+    let fresh = Pair::fresh(Measures { d: 2, s: 2, b: 1, l: 3, h: 1, e: 2, layout: 0 }, 99, stand)?;
+    let after = |call: Call, stand: &mut Stand| {
+        let mut pair = fresh.clone();
+        pair.step(call, Buffer::empty(), stand).map(|_| pair.shelf)
+    };
+    let plain = vec![Call::Format, Call::Start, Call::Fail(0), write(1, 1), read(2, 1), Call::FullResync];
+    let started = after(Call::Start, stand)?;
+    let without = [after(Call::Fail(1), stand)?, after(Call::Fail(4), stand)?];
+    let [failed, without_log] = without;
+    Ok(vec![
+        (fresh.shelf.clone(), plain),
+        (started, vec![Call::Resync]),
+        (failed, vec![Call::Rebuild]),
+        (without_log, vec![Call::NewLog]),
+    ])
+}
+
+/// Fails unless each call is accepted in both layouts, and gets 1 in any other and leaves all as it was.
+fn neither(stand: &mut Stand) -> Result<(), String> {
+    for (shelf, calls) in shelves(stand)? {
+        let mut shelf = Shelf { data: Buffer::of(vec![33]), ..shelf };
+        for call in calls {
+            for layout in [0, 1] {
+                shelf.record.measures.layout = layout;
+                if stand.as_model(call, &shelf)?.code() != 0 {
+                    return Err(format!("{call:?} is refused; the shelf: {shelf}"));
+                }
+            }
+            for layout in NEITHER {
+                shelf.record.measures.layout = layout;
+                stand.expect(call, &shelf, &Due::nothing(call, &shelf, 1))?;
+            }
+        }
+    }
+    Ok(())
+}
+
+/// Tries both tables and the layouts that are neither.
+pub fn group(seed: u64) -> Outcome {
+    let random = &mut Random::new(seed, 11);
+    let stand = &mut Stand::default();
+    let mut rebuilds = table(2, &OF_TWO.each_ref().map(|row| &row[..]), stand, random)?;
+    rebuilds += table(5, &OF_FIVE.each_ref().map(|row| &row[..]), stand, random)?;
+    neither(stand)?;
+    Ok(format!(
+        "{} and {} rows by hand, as the model, the book and {} shelves beside their twins have them; {rebuilds} \
+         rebuilds of twins; {} layouts that are neither, refused by every call; {} calls; seed {seed}",
+        OF_TWO.len(),
+        OF_FIVE.len(),
+        4 * PAIRS,
+        NEITHER.len(),
+        stand.calls
+    ))
+}
