@@ -164,8 +164,8 @@ static void print_layout_terms(void)
 {
     printf("\nThe rotating layout beside the fixed one: what a call takes in either, in µs, and the time in the fixed"
            " layout by that in the rotating one. Both work on the same bytes, put in the layout before a slice, which"
-           " does not count. The array has %zu MiB of data blocks, or %zu MiB, which stay in cache. The members"
-           " rebuilt are 2, or two: 1 and 3 (d 5), 3 and 11 (d 16). In the fixed layout they are data disks; in the"
+           " does not count. The array has %zu MiB of data blocks, or %zu MiB, which stay in cache. Member 2"
+           " is rebuilt, or two members: 1 and 3 (d 5), 3 and 11 (d 16). In the fixed layout they are data disks; in the"
            " rotating one a member has a data block in d of d + 2 stripes and P or Q in two, where both are made. So a"
            " rebuild is also held to the same stripes in the fixed layout: to the sum of what a stripe takes there that"
            " has lost the same, by rebuilds of data disks, of P and Q, and of a data disk and one of these. The last"

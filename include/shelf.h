@@ -24,10 +24,11 @@
  *                            3           P            Q          data 0       data 1
  *                            4           Q          data 0       data 1         P
  *
- * The parity of a stripe, P and Q, is that of stripe.h. A write makes it at once, or puts it off: then it appends
- * blocks to the log, lists them, stores the new blocks on their disks and leaves P and Q as they were. A stripe with a
- * listed block is stale; a resync makes its parity later. Two members may have failed at a time, the log included, and
- * blocks of failed members are read all the same (degraded read), save in one state that is named below.
+ * The parity of a stripe, P and Q, is that of stripe.h, where a stripe's blocks are in the order data, P, Q whatever
+ * the layout. A write makes it at once, or puts it off: then it appends blocks to the log, lists them, stores the new
+ * blocks on their disks and leaves P and Q as they were. A stripe with a listed block is stale; a resync makes its
+ * parity later. Two members may have failed at a time, the log included, and blocks of failed members are read all the
+ * same (degraded read), save in one state that is named below.
  *
  * On a shelf that these calls alone have changed since shelf_format, each call given the record that the one before
  * handed back, and the bytes of failed members left aside, every block that a read hands over and every data block
@@ -45,7 +46,8 @@
  *
  *     buffer   bytes               what stands where
  *     array    (d + 2) * S * B     the block of member m in stripe t, B bytes, at (m * S + t) * B;
- *                                  so in the fixed layout block address a at ((a mod d) * S + a / d) * B
+ *                                  block address a, with t = a / d and i = a mod d, is on member m = i in the fixed
+ *                                  layout, and m = (N + 1 - t mod N + i) mod N in the rotating one
  *     log      L * B               record r, B bytes, at r * B
  *     list     4 * H + 16 * E      the head of slot i, a word, at 4 * i;
  *                                  place p, four words, at 4 * H + 16 * p:
@@ -115,8 +117,10 @@
  * newer record can pass every test, and a read then gives an older block. The flags of a record are bytes of 0 or 1: a
  * record that was read from a disk is tested for this by the driver, since a call cannot.
  *
- * A record of an earlier version has no layout: its shelf has the fixed one. The layout of a shelf is never changed:
- * it is part of the geometry with which it was formatted.
+ * A record of an earlier version has no layout: its shelf has the fixed one, and a driver that kept the record as
+ * bytes puts 0 in behind e. The layout of a shelf is never changed: it is part of the geometry with which it was
+ * formatted. No call can tell that a record has the other one: reads then give other blocks, and parity is stored over
+ * data.
  *
  * A shelf of an earlier version may have a list in another arrangement, with anything in its unused places. If no
  * block is listed, as in mode 0, it is carried over by filling its list with none, every byte 255, before the first
@@ -157,7 +161,8 @@
  * the chains anew: shelf_write once for each stripe that is logged or whose entries are dropped, shelf_resync and
  * shelf_rebuild once. Nothing is sorted, and the time grows with H and the count of listed blocks, not with E. To work
  * a block back by parity, d others are read; if another data block of the stripe is missing too, those that are data
- * are read twice. shelf_rebuild goes through the stripes once, whatever the failed members have in them.
+ * are read twice. shelf_rebuild goes through the stripes once, whatever the failed members have in them; if the log
+ * has failed and blocks are listed, once more before that, for number 14.
  *
  *
  * States
@@ -175,13 +180,13 @@
  * 2 or, if no block is left listed, 0 by shelf_resync. Mode 2 becomes 0 as soon as no block is left listed, by
  * shelf_resync, shelf_write or shelf_rebuild. Any mode becomes 0 by shelf_format, by shelf_full_resync, and by
  * shelf_rebuild if it makes P and Q of a stripe and no block is left listed. All else leaves the mode as it is: a
- * write in mode 0 or 1, a failure of an array member, a failure of the log in mode 0 or 2, a rebuild that makes no
- * parity or leaves blocks listed, a read, a new log.
+ * write in mode 0 or 1 or one in mode 2 that leaves blocks listed, a failure of an array member, a failure of the log
+ * in mode 0 or 2, a rebuild that makes no parity or leaves blocks listed, a read, a new log.
  *
  * What a rebuild makes and drops goes by stripe: it makes P and Q of a stripe and drops its listed blocks if P or Q of
  * that stripe is on a failed member. In the fixed layout these are all stripes if member d or d + 1 has failed, and
- * none if data disks alone have. In the rotating layout a member has P of one stripe in N, Q of another, and data of
- * the others, so a rebuild of one member leaves the other stripes stale that were so.
+ * none if data disks alone have. In the rotating layout a member has, of N stripes in a row, P of one, Q of another
+ * and data of the rest, so a rebuild of one member leaves those of the rest stale that were.
  *
  * What the calls answer in each state, where the record, the lengths, the list and the request are in order. "some" is
  * one or two array members (with the log failed, one). The mode is one that the state can have.
@@ -242,7 +247,7 @@
  * block: with a dead disk it makes P and Q of garbage, and the blocks of that disk cannot be recovered afterwards. So
  * the driver makes sure that all disks with data work before it calls. With the flag of an array member set the call
  * answers 8, and no call leads on; a failed log does not hinder it. If the record is lost too, one with the geometry,
- * mode 0, next 0, listed 0, and no flag but that of a failed log serves as well.
+ * the shelf's own layout included, mode 0, next 0, listed 0, and no flag but that of a failed log serves as well.
  *
  * The log's cycle: to log a stripe takes a record for each block that is written and each that is pre-read, and a
  * place for each of these blocks that is not yet listed; at most d of either. Records are not used again one by one:
@@ -455,7 +460,7 @@ struct shelf_resynced shelf_resync(struct shelf_record shelf, uint8_t *array, si
  * Answers 0, 1, 2, 3, 12 or 14. With 0, every data block on a failed member is what shelf_read would give, and the
  * record handed back has no flag of an array member set; the log's flag is as it was. In each stripe whose P or Q was
  * on a failed member both are made, and its listed blocks are dropped; listed counts those left. If there was such a
- * stripe and none is left, next and the mode become 0; else next and the mode remain. Where there was no such stripe,
+ * stripe and no block is left listed, next and the mode become 0; else both remain. Where there was no such stripe,
  * the list remains too.
  */
 struct shelf_answer shelf_rebuild(struct shelf_record shelf, uint8_t *array, size_t array_len, const uint8_t *log,

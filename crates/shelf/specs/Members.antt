@@ -1,5 +1,5 @@
--- The members of a shelf, its block addresses and its blocks. The letters are those of the geometry: d data disks, s stripes, blocks of b bytes,
--- a log of l records, a list of h hash slots and e places; and the layout, 0 fixed or 1 rotating.
+-- The members of a shelf, its block addresses and its blocks. The letters are those of the geometry: d data blocks a stripe, s stripes, blocks of b
+-- bytes, a log of l records, a list of h hash slots and e places; and the layout, 0 fixed or 1 rotating.
 -- Assumes nothing.
 use mathlib.Core.Bool.{Bool, not, _&&_}
 use mathlib.Core.List.{List}

@@ -1,13 +1,13 @@
 // A record shelf: a RAID-6 array whose parity is put off through a log and a list. The caller lends the record, the array, the log and
 // the list to each call; nothing is kept between calls.
 //
-// Here stand the calls for C. Below them: `record` has the shelf record and its methods, `status` decides the number by which a call is
-// refused, before anything is stored. The list of the blocks whose parity is put off is bytes: `words` reads and writes them as 32-bit
-// words, `list` looks a block up and tests a list for number 3, `entries` moves a list's entries in their places and makes the
-// chains anew, `alter` drops and replaces the entries of a stripe, `stale` tells which stripes have a listed block. The calls that
-// move blocks have a file each, `read`, `write`, `resync`, `rebuild`; a write's stripe goes by its `share` of the caller's data, and
-// one that is logged by a `plan`, the stripe's `row` of the list, `log` and `copies`. The contracts cite `specs/`: `Lent.antt` has the
-// promise of every call, `Calls.antt` what each does.
+// Here stand the calls for C. Below them: `record` has the shelf record and its methods, `status` decides the number by which a call
+// is refused, before anything is stored. The list of the blocks whose parity is put off is bytes: `words` reads and writes them as
+// 32-bit words, `list` looks a block up and tests a list for number 3, `entries` moves a list's entries in their places and makes the
+// chains anew, `alter` drops and replaces the entries of a stripe and drops those of stripes that lost their parity, `stale` tells
+// which stripes have a listed block. The calls that move blocks have a file each, `read`, `write`, `resync`, `rebuild`; a write's
+// stripe goes by its `share` of the caller's data, and one that is logged by a `plan`, the stripe's `row` of the list, `log` and
+// `copies`. The contracts cite `specs/`: `Lent.antt` has the promise of every call, `Calls.antt` what each does.
 mod alter;
 mod copies;
 mod entries;

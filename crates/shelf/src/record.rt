@@ -9,7 +9,7 @@ ghost use Rattle.shelf.specs.Calls.{parityFailed};
 ghost use Rattle.shelf.specs.Lent.{flagAt, flagFrom};
 ghost use Rattle.shelf.specs.Records.{failedRole, withMode, withFailed, withRenewed, withListed, withLogged, withCleared};
 
-// The measures of a shelf, by the customer's letters: d data disks (2 to 16), s stripes (1 to 65,536), blocks of b bytes
+// The measures of a shelf, by the customer's letters: d data blocks a stripe (2 to 16), s stripes (1 to 65,536), blocks of b bytes
 // (1 to 4,096), a log of l records (1 to 65,536), a list of h hash slots (1 to 256) and e places (1 to 4,096); and the layout
 // (0 fixed, 1 rotating).
 #[repr(C)]
@@ -35,7 +35,7 @@ pub struct Shelf {
 }
 
 impl Geometry {
-    // How many members the array has: the data disks, P and Q.
+    // How many members the array has: one for each role of a stripe, data, P and Q.
     pub fn array_members(self) -> usize
         requires { ⌜ self .d ≤ 16 ⌝ }
         ensures { λ r. ⌜ r ≡ arrayMembers self ⌝ }

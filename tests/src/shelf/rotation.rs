@@ -348,7 +348,7 @@ const FEW_STRIPES_END: [Step; 3] = [
     (Call::Rebuild, &[], [0, 0, 0, 0], &[], &[Array(&[39, 4, 1, 5, 21, 6, 3, 7, 23, 22])]),
 ];
 
-/// The same in mode 2, after stripe 0 was resynced: stripe 1 stays stale, and so does the mode. With the log failed too
+/// The same in mode 2, after stripe 0 was resynced: stripe 1 stays stale, and the mode remains. With the log failed too
 /// member 1, which has data of stripe 1, is not rebuilt.
 const FEW_STRIPES_TRANSITIONAL: [Step; 10] = [
     (write(0, 6), &[1, 2, 3, 4, 5, 6], [0, 0, 0, 0], &[], &[Array(&[9, 4, 1, 5, 2, 6, 3, 7, 0, 22])]),

@@ -45,14 +45,15 @@ const OF_FIVE: [[usize; 7]; 15] = [
     [1, 2, 3, 4, 5, 6, 0],
 ];
 
-/// How many pairs of twins are tried for each table: some with all its stripes, some with one; and the calls of a pair.
+/// How many pairs of twins are tried for each table: so many with all its stripes and as many with
+/// one; and the calls of a pair.
 const PAIRS: usize = 100;
 const CALLS: usize = 60;
 
 /// How many rebuilds twins of one stripe must come through.
 const REBUILDS: usize = 100;
 
-/// Layouts that are neither fixed nor rotating: next to these, ones that 8, 16, 31 or 32 bits take for them, and the
+/// Layouts that are neither fixed nor rotating: next to these, ones that 8, 16, 31, 32 or 63 bits take for them, and the
 /// greatest ones.
 const NEITHER: [usize; 16] = [
     2,

@@ -52,7 +52,7 @@ pub roles-any : (r : Shelf) (x : ℕ) (ts : List Bool) → Tests (r .geometry .d
 roles-any r x ts T = any-ext (r .geometry .d) (λ k. getD ts k false) (failedRole r x) (λ k h. T k (omega arith))
 
 module _ (r : Shelf) (l : List ℕ) (R : ListReady r l) (x : ℕ) where
-  -- no data disk has failed
+  -- no data block of the stripe is on a failed member
   pub sound-at : dataFailedAt r x ≡ false → false ≡ withheldAt r l x
   sound-at e =
       sym (none-any (r .geometry .d) (λ i. withheld (r .geometry) (flagAt r) (listedBy (r .geometry) l) x i)

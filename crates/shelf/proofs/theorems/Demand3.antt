@@ -1,11 +1,11 @@
 -- The customer's third demand, whole. Take any sequence of the calls start, fail, write, read, resync, rebuild, new log and full resync, with any
 -- arguments and refused ones included, from a fresh shelf as format leaves it. Each call is given the record, array, log and list as the one before
 -- left them, save that the bytes of failed members (at most two at once, the log included) may change at will between calls. Then each call gets the
--- number that the book gives; no block of an accepted read, and no data block on a failed member that an accepted rebuild filled, differs from the last block
--- written at that address (zeros if none); and a read or rebuild that no earlier number refuses is withheld exactly when a data block that it must
--- give has its own disk and the log both failed while that block's stripe awaits resynchronisation. `specs/Sequence.antt` has the words of the
--- claim, `specs/Lent.antt` what a call promises (`Answered`). The contracts of the eight calls in `src/lib.rt` are these promises, and that of read
--- promises the buffer too (`readBuffer`), so the claim is one of the library.
+-- number that the book gives; no block of an accepted read, and no data block on a failed member that an accepted rebuild filled, differs from the
+-- last block written at that address (zeros if none); and a read or rebuild that no earlier number refuses is withheld exactly when a data block that
+-- it must give has its own disk and the log both failed while that block's stripe awaits resynchronisation. `specs/Sequence.antt` has the words of
+-- the claim, `specs/Lent.antt` what a call promises (`Answered`). The contracts of the eight calls in `src/lib.rt` are these promises, and that of
+-- read promises the buffer too (`readBuffer`), so the claim is one of the library.
 -- Assumes nothing.
 use mathlib.Core.Bool.{false}
 use mathlib.Core.List.{List, [], _∷_}

@@ -1,6 +1,6 @@
 -- The marked examples K1 to K13 and the printed session of the bench program, proved from the definitions by computation: one statement ranges over
--- the list of the examples, and one over the list of the printed lines. Then the session's shelf as bytes: what format leaves, the layout of array,
--- log and list, and the numbers 1 to 3.
+-- the list of the examples, and one over the list of the printed lines. Then three sessions in the rotating layout, by shelf and by book, and the
+-- session's shelf as bytes: what format leaves, the layout of array, log and list, and the numbers 1 to 3.
 -- Assumes nothing.
 use mathlib.Core.Bool.{false}
 use mathlib.Core.List.{List, [], _∷_}
