@@ -99,7 +99,7 @@ bookWork g resync b =
     }
 bookWork g rebuild b =
     let lost = parityFailed g (b .failed) in
-    let left : ℕ → ℕ → Bool = λ x i. choose (parityFailed g (b .failed) x) false (b .state .marks x i) in
+    let left : ℕ → ℕ → Bool = λ x i. choose (lost x) false (b .state .marks x i) in
     record {
       held = b .held;
       failed = arrayCleared g (b .failed);

@@ -9,14 +9,14 @@ use lib.Dec.{ltb}
 use Rattle.stripe.specs.Blocks.{put}
 use Rattle.stripe.specs.Places.{parityMade}
 use Rattle.shelf.specs.Counting.{choose, count, any}
-use Rattle.shelf.specs.Members.{arrayMembers, memberAt, placeAt, addressOf}
+use Rattle.shelf.specs.Members.{arrayMembers, placeAt, addressOf}
 use Rattle.shelf.specs.Status.{withheld}
 use Rattle.shelf.specs.Calls.{parityFailed, modeRebuilt}
 use Rattle.shelf.specs.Words.{words}
 use Rattle.shelf.specs.HashList.{noneWord, Entry, entries}
 use Rattle.shelf.specs.Lent.{Lent, lent, flagAt, listedBy, arrayBlock}
 use Rattle.shelf.specs.Rewriting.{dropStripes}
-use Rattle.shelf.specs.Records.{withMode, withListed, withCleared}
+use Rattle.shelf.specs.Records.{failedRole, withMode, withListed, withCleared}
 use Rattle.shelf.specs.Reading.{Ready, latest, servedBlock}
 use Rattle.shelf.specs.declared.record.Shelf.{Shelf}
 
@@ -26,7 +26,7 @@ abbrev pub parityFailedAt : Shelf → ℕ → Bool
 parityFailedAt r x = parityFailed (r .geometry) (flagAt r) x
 
 abbrev pub dataFailedAt : Shelf → ℕ → Bool
-dataFailedAt r x = any (r .geometry .d) (λ i. flagAt r (memberAt (r .geometry) x i))
+dataFailedAt r x = any (r .geometry .d) (failedRole r x)
 
 abbrev pub withheldAt : Shelf → List ℕ → ℕ → Bool
 withheldAt r l x = any (r .geometry .d) (λ i. withheld (r .geometry) (flagAt r) (listedBy (r .geometry) l) x i)
@@ -40,12 +40,12 @@ pub record Rebuildable (h : Lent) : Type 0 where
 
 -- the block of data index i of stripe x is on a failed member and not in the log
 abbrev pub Lost : Shelf → List ℕ → ℕ → ℕ → Type 0
-Lost r l x i = (flagAt r (memberAt (r .geometry) x i) ≡ true) × (latest (words l) (r .geometry) (addressOf (r .geometry) x i) ≡ noneWord)
+Lost r l x i = (failedRole r x i ≡ true) × (latest (words l) (r .geometry) (addressOf (r .geometry) x i) ≡ noneWord)
 
 -- the data blocks of stripe x below i that are on failed members are filled
 abbrev pub FilledBelow : Lent → ℕ → ℕ → Type 0
 FilledBelow h x i =
-    (k : ℕ) → k < i → flagAt (h .shelf) (memberAt (h .shelf .geometry) x k) ≡ true → arrayBlock (h .shelf .geometry) (h .array) x k ≡ servedBlock h x k
+    (k : ℕ) → k < i → failedRole (h .shelf) x k ≡ true → arrayBlock (h .shelf .geometry) (h .array) x k ≡ servedBlock h x k
 
 -- the missing role beside i, unless it is one of those filled; else i itself
 abbrev pub stillMissing : ℕ → ℕ → ℕ

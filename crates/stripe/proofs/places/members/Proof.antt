@@ -1,13 +1,13 @@
 -- `stripe::places::members` meets its contract. The loop's invariant: each role passed has its member in the table.
 -- Assumes nothing.
-use mathlib.Core.Path.{_≡_, ap, sym, _∙_}
-use Prim.Native.Nat.{ℕ, _+_, _-_, _≤_, _<_}
+use mathlib.Core.Path.{_≡_}
+use Prim.Native.Nat.{ℕ, _-_, _≤_, _<_}
 use native.Mathlib.Omega.{arith}
 use lib.ListN.{length-set, length, getD}
 use borrow.Author.Needs.{needs}
-use Rattle.stripe.specs.Places.{memberOf, turned}
+use Rattle.stripe.specs.Places.{memberOf}
 use Rattle.stripe.proofs.Lists.{fill-step}
-use Rattle.stripe.proofs.MemberLaws.{member-turned}
+use Rattle.stripe.proofs.MemberLaws.{member-from}
 use Rattle.stripe.proofs.places.members.Statement.{statement}
 use Rattle.stripe.proofs.places.members.Tie as tie
 
@@ -46,9 +46,9 @@ loop-again c =
     let at-loop = c .before .before .loop in
     let a = c .before .before .before .before .args in
     let low : at-loop .i < length (at-loop .ms) = omega arith in
+    let first = c .before .before .before .first-member in
     let is : c .turned .result ≡ memberOf (a .layout) (a .d) (a .s) (at-loop .i) =
-    c .turned .ensures .0 ∙ ap (λ (m : ℕ). turned (a .d + 2) m (at-loop .i)) (c .before .before .before .first-member .ensures .0)
-    ∙ sym (member-turned (a .layout) (a .d) (a .s) (at-loop .i) (c .before .loop-test .taken)) in
+    member-from (a .layout) (a .d) (a .s) (at-loop .i) (first .result) (c .turned .result) (first .ensures .0) (c .turned .ensures .0) (c .before .loop-test .taken) in
     (omega arith, (simp length-set (omega arith), fill-step (at-loop .ms) (at-loop .i) _ (memberOf (a .layout) (a .d) (a .s)) low (at-loop .inv .1 .1) is))
 
 returns : tie.Need-returns Inv-loop μ-loop
