@@ -178,10 +178,10 @@
  *
  * Mode 0 becomes 1 by shelf_start alone. Mode 1 becomes 2 or, if no block is listed, 0 where the log fails; it becomes
  * 2 or, if no block is left listed, 0 by shelf_resync. Mode 2 becomes 0 as soon as no block is left listed, by
- * shelf_resync, shelf_write or shelf_rebuild. Any mode becomes 0 by shelf_format, by shelf_full_resync, and by
- * shelf_rebuild if it makes P and Q of a stripe and no block is left listed. All else leaves the mode as it is: a
- * write in mode 0 or 1 or one in mode 2 that leaves blocks listed, a failure of an array member, a failure of the log
- * in mode 0 or 2, a rebuild that makes no parity or leaves blocks listed, a read, a new log.
+ * shelf_resync, shelf_write or shelf_rebuild. Any mode becomes 0 by shelf_format and by shelf_full_resync. All else
+ * leaves the mode as it is: a write or a rebuild in mode 0 or 1, or one in mode 2 that leaves blocks listed, a failure
+ * of an array member, a failure of the log in mode 0 or 2, a read, a new log. So a rebuild never ends mode 1, whether
+ * blocks are listed before it or after it or not: writes go on being logged, where log and list have room.
  *
  * What a rebuild makes and drops goes by stripe: it makes P and Q of a stripe and drops its listed blocks if P or Q of
  * that stripe is on a failed member. In the fixed layout these are all stripes if member d or d + 1 has failed, and
@@ -216,9 +216,9 @@
  *     none        sound    yes        shelf_resync until the mode is 0; or shelf_full_resync
  *     none        failed   no         shelf_new_log
  *     none        failed   yes        shelf_resync until the mode is 0, or shelf_full_resync; then shelf_new_log
- *     some        sound    no         shelf_rebuild; the mode remains, if it makes no parity
+ *     some        sound    no         shelf_rebuild; the mode remains
  *     some        sound    yes        shelf_rebuild; then, if blocks are left listed, shelf_resync until the mode is 0,
- *                                     or shelf_full_resync
+ *                                     or shelf_full_resync; if none is left, mode 1 remains
  *     some        failed   no         shelf_rebuild and shelf_new_log, in either order
  *     some        failed   yes        shelf_rebuild, then shelf_new_log, if shelf_rebuild answers 0; else none, see
  *                                     below
@@ -231,16 +231,16 @@
  * gets 14, shelf_write 8, and so do shelf_resync and shelf_full_resync; shelf_new_log gets 13, shelf_start 7. No call
  * changes the shelf any more, save shelf_format. What can be read are all blocks on sound members, and those of the
  * failed one in stripes that are not stale. So when the log fails while a stripe is stale, resync at once; and when an
- * array member fails while a stripe is stale, rebuild and resync at once.
+ * array member fails while a stripe is stale, rebuild at once.
  *
  * SHELF_WITHHELD (14) refuses a read as a whole and names no block. To read those that are not withheld, ask again
  * block by block.
  *
  * A third failure cannot be noted: shelf_fail answers 11, and the calls go on trusting the member. Make no other call
- * then than one that clears a flag and does not look at that member, and report it after that: shelf_new_log, if the
- * log is one of the two and no block is listed; shelf_rebuild, if the third is the log, and no stripe is stale or the
- * two have P and Q in each stale stripe; in the fixed layout shelf_rebuild too, if the two are the log and one of P
- * and Q, and the third is the other of these.
+ * then than one that clears a flag and does not look at that member, and report it by the next call: shelf_new_log,
+ * if the log is one of the two and no block is listed; shelf_rebuild, if the third is the log, and no stripe is stale
+ * or the two have P and Q in each stale stripe; in the fixed layout shelf_rebuild too, if the two are the log and one
+ * of P and Q, and the third is the other of these.
  *
  * The list is lost (SHELF_BAD_LIST, 3): every call but shelf_format and shelf_full_resync answers 3, shelf_fail too,
  * so a disk that fails now cannot be reported. shelf_full_resync does not look at the list. It trusts every data
@@ -459,9 +459,9 @@ struct shelf_resynced shelf_resync(struct shelf_record shelf, uint8_t *array, si
  *
  * Answers 0, 1, 2, 3, 12 or 14. With 0, every data block on a failed member is what shelf_read would give, and the
  * record handed back has no flag of an array member set; the log's flag is as it was. In each stripe whose P or Q was
- * on a failed member both are made, and its listed blocks are dropped; listed counts those left. If there was such a
- * stripe and no block is left listed, next and the mode become 0; else both remain. Where there was no such stripe,
- * the list remains too.
+ * on a failed member both are made, and its listed blocks are dropped; listed counts those left. If no block is left
+ * listed, next is 0, and mode 2 becomes 0; else next and the mode remain. Mode 1 remains in either case. Where there
+ * was no such stripe, the list remains too.
  */
 struct shelf_answer shelf_rebuild(struct shelf_record shelf, uint8_t *array, size_t array_len, const uint8_t *log,
                                   size_t log_len, uint8_t *list, size_t list_len);

@@ -346,14 +346,19 @@ static int blocks_resynced(struct shelf_record shelf)
     return 0;
 }
 
-/* Formats and starts a shelf, and goes through the calls that serve blocks and bring parity up to date. */
+/* Formats and starts a shelf, has P's disk fail and be rebuilt, after which the shelf goes on accelerating, and goes
+ * through the calls that serve blocks and bring parity up to date. */
 static int shelf_blocks(void)
 {
     const struct shelf_record fresh = {{3, 2, 5, 4, 2, 4, 0}, 0, 0, 0, {false}};
     const struct shelf_record started = on(shelf_start, format(fresh).shelf).shelf;
-    struct shelf_record logged = started;
-    int fault = blocks_logged(started);
+    const struct shelf_answer rebuilt = mended(shelf_rebuild, member_of(shelf_fail, started, 3).shelf);
+    struct shelf_record logged = rebuilt.shelf;
+    int fault;
 
+    if (rebuilt.code != SHELF_OK || !is(rebuilt.shelf, SHELF_ACCELERATING, 0, 0, 0))
+        return 40;
+    fault = blocks_logged(rebuilt.shelf);
     if (fault != 0)
         return fault;
     logged.next = 2;
@@ -364,7 +369,7 @@ static int shelf_blocks(void)
 /* On that shelf where parity rotates. Stripe 0 has P on member 4, Q on member 0 and its data on members 1 to 3; stripe
  * 1 has its data on members 0 to 2, P on 3 and Q on 4. Blocks 0 to 3 are written as 1, 2, 3 and 5; then block 1 is
  * logged as 7 and block 4 as 6. Member 4 fails and is rebuilt: it had parity of either stripe, and nothing remains
- * listed. */
+ * listed. The shelf goes on accelerating: block 1 is logged as 6, from log record 0 on. */
 static int shelf_rotates(void)
 {
     const struct shelf_record fresh = {{3, 2, 5, 4, 2, 4, 1}, 0, 0, 0, {false}};
@@ -386,13 +391,17 @@ static int shelf_rotates(void)
     answer = member_of(shelf_fail, answer.shelf, 4);
     memset(array + 40, 55, 10);
     answer = mended(shelf_rebuild, answer.shelf);
-    if (answer.code != SHELF_OK || !is_of(1, answer.shelf, SHELF_NORMAL, 0, 0, 0) || !all(list, sizeof list, 255))
+    if (answer.code != SHELF_OK || !is_of(1, answer.shelf, SHELF_ACCELERATING, 0, 0, 0) || !all(list, sizeof list, 255))
         return 65;
     if (!block_is(4, 0, 5) || !block_is(0, 0, 3) || !block_is(3, 1, 3) || !block_is(4, 1, 9))
         return 66;
+    answer = write_blocks(answer.shelf, 1, 1, sixes, sizeof sixes);
+    if (answer.code != SHELF_OK || !is_of(1, answer.shelf, SHELF_ACCELERATING, 2, 1, 0) || !block_is(2, 0, 6) ||
+        !all(log_bytes, 5, 7) || !all(log_bytes + 5, 5, 6))
+        return 67;
     answer.shelf.geometry.layout = 2;
     if (format(answer.shelf).code != SHELF_BAD_RECORD || on(shelf_start, answer.shelf).code != SHELF_BAD_RECORD)
-        return 67;
+        return 68;
     return 0;
 }
 

@@ -4,4 +4,5 @@ pub mod FirstNumbers
 pub mod ResyncCount
 pub mod LogReuse
 pub mod OneList
+pub mod RebuildMode
 pub mod Examples

@@ -10,7 +10,7 @@ use Rattle.shelf.specs.Counting.{choose, count, any, lesser, setAt}
 use Rattle.shelf.specs.Members.{logMember, blank}
 use Rattle.shelf.specs.State.{marksIn, lowestStale}
 use Rattle.shelf.specs.Status.{Call, start, fail, write, read, resync, rebuild, newLog, fullResync, codeOf}
-use Rattle.shelf.specs.Calls.{nextLeft, modeLeft, unlistedWritten, unlistedOthers, written, given, parityFailed, arrayCleared, modeRebuilt}
+use Rattle.shelf.specs.Calls.{nextLeft, modeLeft, unlistedWritten, unlistedOthers, written, given, parityFailed, arrayCleared}
 use Rattle.shelf.specs.declared.record.Geometry.{Geometry}
 
 -- the marked addresses, by stripe and data index, u (the log records used) and the mode
@@ -98,12 +98,15 @@ bookWork g resync b =
           });
     }
 bookWork g rebuild b =
-    let lost = parityFailed g (b .failed) in
-    let left : ℕ → ℕ → Bool = λ x i. choose (lost x) false (b .state .marks x i) in
     record {
       held = b .held;
       failed = arrayCleared g (b .failed);
-      state = closed g (record { marks = left; used = b .state .used; mode = modeRebuilt (any (g .s) lost) (marksIn g left) (b .state .mode) });
+      state =
+          closed g (record {
+            marks = λ x i. choose (parityFailed g (b .failed) x) false (b .state .marks x i);
+            used = b .state .used;
+            mode = b .state .mode;
+          });
     }
 bookWork g newLog b = record { held = b .held; failed = setAt (logMember g) false (b .failed); state = b .state }
 bookWork g fullResync b =

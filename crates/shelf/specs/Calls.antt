@@ -33,7 +33,7 @@ abbrev pub withNext : Log → ℕ → Log
 withNext n r = record { value = n .value; next = r; ori = n .ori; cur = n .cur }
 
 -- Whenever the last listed block is dropped, the next free record becomes 0, so log records are used again, and mode 2 becomes 0. Where nothing was
--- listed before, row 1 has seen to both already. Here mode 1 remains mode 1.
+-- listed before, row 1 has seen to both already. Mode 1 remains mode 1.
 unfoldable pub settled : Geometry → State → State
 settled g s =
     record {
@@ -223,18 +223,11 @@ parityFailed g f x = f (memberAt g x (roleP g)) || f (memberAt g x (roleQ g))
 abbrev pub arrayCleared : Geometry → (ℕ → Bool) → ℕ → Bool
 arrayCleared g f i = choose (ltb i (arrayMembers g)) false (f i)
 
--- if P and Q were made in a stripe and the list ends empty, mode 0, else the mode as it was
-abbrev pub modeRebuilt : Bool → ℕ → ℕ → ℕ
-modeRebuilt made marks mode = choose (made && eqb marks 0) 0 mode
-
 -- Every data block on a failed member is filled with what read would give; one on a sound member is read as it is. In the stripes whose P or Q was on
--- a failed member, and only there, both are made afresh and the listed blocks are dropped. If there was such a stripe and the list ends empty, the mode
--- becomes 0, else it remains. All array flags clear.
+-- a failed member, and only there, both are made afresh and the listed blocks are dropped. All array flags clear, and the rest is settled: mode 2
+-- becomes 0 where the list ends empty, and mode 1 remains mode 1, with or without listed blocks before and after.
 unfoldable pub rebuilt : Geometry → State → State
-rebuilt g s =
-    let lost = parityFailed g (s .failed) in
-    let filled = afresh g s lost (blockAt g s) in
-    settled g (withFlags (inMode filled (modeRebuilt (any (g .s) lost) (marksIn g (listed (filled .log))) (s .mode))) (arrayCleared g (s .failed)))
+rebuilt g s = settled g (withFlags (afresh g s (parityFailed g (s .failed)) (blockAt g s)) (arrayCleared g (s .failed)))
 
 -- ---- the calls
 

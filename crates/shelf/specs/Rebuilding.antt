@@ -11,12 +11,12 @@ use Rattle.stripe.specs.Places.{parityMade}
 use Rattle.shelf.specs.Counting.{choose, count, any}
 use Rattle.shelf.specs.Members.{arrayMembers, placeAt, addressOf}
 use Rattle.shelf.specs.Status.{withheld}
-use Rattle.shelf.specs.Calls.{parityFailed, modeRebuilt}
+use Rattle.shelf.specs.Calls.{parityFailed}
 use Rattle.shelf.specs.Words.{words}
 use Rattle.shelf.specs.HashList.{noneWord, Entry, entries}
 use Rattle.shelf.specs.Lent.{Lent, lent, flagAt, listedBy, arrayBlock}
 use Rattle.shelf.specs.Rewriting.{dropStripes}
-use Rattle.shelf.specs.Records.{failedRole, withMode, withListed, withCleared}
+use Rattle.shelf.specs.Records.{failedRole, withListed, withCleared}
 use Rattle.shelf.specs.Reading.{Ready, latest, servedBlock}
 use Rattle.shelf.specs.declared.record.Shelf.{Shelf}
 
@@ -79,9 +79,9 @@ rebuiltTo h (suc n) = stripeRebuilt (withArray h (rebuiltTo h n)) n
 
 -- ---- the record and the list
 
--- the record with the array's flags cleared and n blocks left listed; made tells whether P and Q were made in a stripe
-abbrev pub rebuiltRecord : Shelf → Bool → ℕ → Shelf
-rebuiltRecord r made n = withListed (withMode (withCleared r) (modeRebuilt made n (r .mode))) n
+-- the record with the array's flags cleared and n blocks left listed
+abbrev pub rebuiltRecord : Shelf → ℕ → Shelf
+rebuiltRecord r n = withListed (withCleared r) n
 
 -- the entries of the stripes that kept their parity
 abbrev pub keptEntries : Shelf → List ℕ → List Entry

@@ -237,8 +237,8 @@ pub extern "C" fn shelf_resync(
 }
 
 // Fills every data block on a failed member with what a read gives and clears the array's flags. In the stripes whose P or Q was on a
-// failed member both are made afresh and the listed blocks are dropped; if there was such a stripe and no block is left listed, the mode
-// is 0. Answers 0; or the first of 1, 2, 3, 12, 14 that applies, and then stores nothing.
+// failed member both are made afresh and the listed blocks are dropped; if no block is left listed, all log records are free and mode 2
+// ends. Mode 1 remains. Answers 0; or the first of 1, 2, 3, 12, 14 that applies, and then stores nothing.
 #[no_mangle]
 pub extern "C" fn shelf_rebuild(
     shelf: record::Shelf,
@@ -252,10 +252,10 @@ pub extern "C" fn shelf_rebuild(
     if code != 0 {
         return Answer { code, shelf };
     }
-    let made = rebuild::rebuild_array(shelf, array, log, list);
+    rebuild::rebuild_array(shelf, array, log, list);
     Answer {
         code: 0,
-        shelf: rebuild::settle(shelf, made, list),
+        shelf: rebuild::settle(shelf, list),
     }
 }
 

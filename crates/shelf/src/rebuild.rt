@@ -10,28 +10,26 @@ ghost use mathlib.Core.Path.{_≡_};
 ghost use Prim.Native.Nat.{_<_, _≤_};
 ghost use lib.ListN.{length};
 ghost use Rattle.stripe.specs.Steps.{Products};
-ghost use Rattle.shelf.specs.Counting.{any};
 ghost use Rattle.shelf.specs.HashList.{Measures, Lists};
 ghost use Rattle.shelf.specs.Words.{words};
 ghost use Rattle.shelf.specs.Lent.{lent};
 ghost use Rattle.shelf.specs.Records.{failedRole};
 ghost use Rattle.shelf.specs.Rewriting.{Rewritten};
 ghost use Rattle.shelf.specs.Reading.{lostBlock};
-ghost use Rattle.shelf.specs.Rebuilding.{Rebuildable, Lost, FilledBelow, stillMissing, parityFailedAt, filledAt, filledTo, stripeRebuilt, rebuiltTo, rebuiltRecord, keptEntries};
+ghost use Rattle.shelf.specs.Rebuilding.{Rebuildable, Lost, FilledBelow, stillMissing, filledAt, filledTo, stripeRebuilt, rebuiltTo, rebuiltRecord, keptEntries};
 
-// Rebuilds every stripe of the array. One working block and one table of products serve them all. Answers whether P and Q of one were
-// made.
-pub fn rebuild_array(shelf: record::Shelf, array: &mut [u8], log: &[u8], list: &[u8]) -> bool
+// Rebuilds every stripe of the array. One working block and one table of products serve them all.
+pub fn rebuild_array(shelf: record::Shelf, array: &mut [u8], log: &[u8], list: &[u8])
     requires { ⌜ Rebuildable (lent shelf (now array) (now log) (now list)) ⌝ }
-    ensures { λ r. ⌜ (now (array .exit) ≡ rebuiltTo (lent shelf (now (array .entry)) (now (log .entry)) (now (list .entry))) (shelf .geometry .s)) × (r ≡ any (shelf .geometry .s) (parityFailedAt shelf)) ⌝ }
+    ensures { λ _. ⌜ now (array .exit) ≡ rebuiltTo (lent shelf (now (array .entry)) (now (log .entry)) (now (list .entry))) (shelf .geometry .s) ⌝ }
 {
     let g = shelf.geometry;
     let mut work = [0u8; 4096];
     let mut products = [0u8; 256];
-    rebuild_stripes(shelf, array, log, list, &mut work[..g.b], &mut products)
+    rebuild_stripes(shelf, array, log, list, &mut work[..g.b], &mut products);
 }
 
-// Rebuilds every stripe of the array, in rising order. Answers whether P and Q of one were made.
+// Rebuilds every stripe of the array, in rising order.
 fn rebuild_stripes(
     shelf: record::Shelf,
     array: &mut [u8],
@@ -39,23 +37,19 @@ fn rebuild_stripes(
     list: &[u8],
     work: &mut [u8],
     products: &mut [u8],
-) -> bool
+)
     requires { ⌜ Rebuildable (lent shelf (now array) (now log) (now list)) × ((length (now work) ≡ shelf .geometry .b) × Products (now products)) ⌝ }
-    ensures { λ r. ⌜ (now (array .exit) ≡ rebuiltTo (lent shelf (now (array .entry)) (now (log .entry)) (now (list .entry))) (shelf .geometry .s)) × (r ≡ any (shelf .geometry .s) (parityFailedAt shelf)) ⌝ }
+    ensures { λ _. ⌜ now (array .exit) ≡ rebuiltTo (lent shelf (now (array .entry)) (now (log .entry)) (now (list .entry))) (shelf .geometry .s) ⌝ }
 {
     let s = shelf.geometry.s;
-    let mut made = false;
     let mut x: usize = 0;
     while x < s {
-        if rebuild_stripe(shelf, x, array, log, list, work, products) {
-            made = true;
-        }
+        rebuild_stripe(shelf, x, array, log, list, work, products);
         x += 1;
     }
-    made
 }
 
-// Rebuilds stripe x: fills its data blocks, then makes P and Q of them where one of these was on a failed member. Answers whether it did.
+// Rebuilds stripe x: fills its data blocks, then makes P and Q of them where one of these was on a failed member.
 fn rebuild_stripe(
     shelf: record::Shelf,
     x: usize,
@@ -64,17 +58,15 @@ fn rebuild_stripe(
     list: &[u8],
     work: &mut [u8],
     products: &mut [u8],
-) -> bool
+)
     requires { ⌜ Rebuildable (lent shelf (now array) (now log) (now list)) × ((x < shelf .geometry .s) × ((length (now work) ≡ shelf .geometry .b) × Products (now products))) ⌝ }
-    ensures { λ r. ⌜ (now (array .exit) ≡ stripeRebuilt (lent shelf (now (array .entry)) (now (log .entry)) (now (list .entry))) x) × (Products (now (products .exit)) × (r ≡ parityFailedAt shelf x)) ⌝ }
+    ensures { λ _. ⌜ (now (array .exit) ≡ stripeRebuilt (lent shelf (now (array .entry)) (now (log .entry)) (now (list .entry))) x) × Products (now (products .exit)) ⌝ }
 {
     let g = shelf.geometry;
     fill_stripe(shelf, x, array, log, list, work, products);
-    let lost = shelf.parity_failed(x);
-    if lost {
+    if shelf.parity_failed(x) {
         stripe::parity::make_parity(array, g.layout, g.d, g.s, x, g.b);
     }
-    lost
 }
 
 // Fills the data blocks of stripe x that are on failed members, in rising data index.
@@ -157,18 +149,12 @@ fn still_missing(i: usize, y: usize) -> usize
 }
 
 // The record after a rebuild, and the list: the array's flags clear, and the entries of the stripes whose P or Q was on a failed member
-// are dropped. Where P and Q of a stripe were made and no entry is left, the mode is 0.
-pub fn settle(shelf: record::Shelf, made: bool, list: &mut [u8]) -> record::Shelf
+// are dropped.
+pub fn settle(shelf: record::Shelf, list: &mut [u8]) -> record::Shelf
     requires { ⌜ (shelf .geometry .d ≤ 16) × (Measures (shelf .geometry) (now list) × Lists (words (now list)) (shelf .geometry) (shelf .listed)) ⌝ }
-    ensures { λ r. ⌜ Rewritten (shelf .geometry) (keptEntries shelf (now (list .entry))) (now (list .exit)) (r .listed) × (r ≡ rebuiltRecord shelf made (r .listed)) ⌝ }
+    ensures { λ r. ⌜ Rewritten (shelf .geometry) (keptEntries shelf (now (list .entry))) (now (list .exit)) (r .listed) × (r ≡ rebuiltRecord shelf (r .listed)) ⌝ }
 {
     let n = alter::drop_lost(list, shelf);
     let cleared = shelf.clear_array();
-    if made {
-        if n == 0 {
-            let entered = cleared.in_mode(0);
-            return entered.drop_to(n);
-        }
-    }
     cleared.drop_to(n)
 }

@@ -1,5 +1,5 @@
-//! The customer's session and marked examples as sessions of the bench program, with the lines that it must write
-//! worked out by hand. Blocks have one byte, so that a read shows a block. The model is not asked.
+//! The customer's session, marked examples and rebuilds of parity as sessions of the bench program, with the lines that
+//! it must write worked out by hand. Blocks have one byte, so that a read shows a block. The model is not asked.
 
 use super::inputs::NAMES;
 use super::model::COLUMNS;
@@ -8,8 +8,8 @@ use crate::shelf::printed::{INPUT, OUTPUT};
 /// A session: what it shows, the measures, and each call line with the line that is due for it.
 type Session = (&'static str, &'static str, &'static [(&'static str, &'static str)]);
 
-/// The sessions of K4 to K13.
-const SESSIONS: [Session; 9] = [
+/// The sessions of K4 to K13, and one of rebuilds of parity.
+const SESSIONS: [Session; 10] = [
     ("K4 and K5", "3 1 1 4 2 3", &K4_K5),
     ("K4 with the parity made afresh", "3 1 1 4 2 3", &K4_REBUILT),
     ("K6 and K7", "2 1 1 4 2 3", &K6_K7),
@@ -19,6 +19,7 @@ const SESSIONS: [Session; 9] = [
     ("K11", "3 2 1 4 2 4", &K11),
     ("K12", "3 1 1 3 2 3", &K12),
     ("K13", "2 1 1 2 1 1", &K13),
+    ("parity rebuilt in modes 1 and 2", "3 2 1 4 2 4", &PARITY_REBUILT),
 ];
 
 /// Data 1, 2, 3; blocks 0 and 1 come back from block 2, P and Q.
@@ -124,6 +125,26 @@ const K12: [(&str, &str); 3] =
 const K13: [(&str, &str); 3] =
     [("start 0 0 0", "start 0 1 0 0 0"), ("write 0 1 7", "write 0 1 1 2 0"), ("resync 0 0 0", "resync 0 0 0 0 0")];
 
+/// P rebuilt in mode 1 with nothing listed, and Q with block 1 listed: mode 1 remains, and the next write is logged
+/// from record 0 on. P rebuilt in mode 2 with block 4 listed: the mode becomes 0.
+const PARITY_REBUILT: [(&str, &str); 15] = [
+    ("start 0 0 0", "start 0 1 0 0 0"),
+    ("fail 3 0 0", "fail 0 1 0 0 0"),
+    ("rebuild 0 0 0", "rebuild 0 1 0 0 0"),
+    ("start 0 0 0", "start 7 1 0 0 0"),
+    ("write 1 1 7", "write 0 1 1 2 0"),
+    ("fail 4 0 0", "fail 0 1 1 2 0"),
+    ("rebuild 0 0 0", "rebuild 0 1 0 0 0"),
+    ("write 1 1 8", "write 0 1 1 2 0"),
+    ("write 4 1 5", "write 0 1 2 4 0"),
+    ("resync 0 0 0", "resync 0 2 1 4 0"),
+    ("fail 3 0 0", "fail 0 2 1 4 0"),
+    ("rebuild 0 0 0", "rebuild 0 0 0 0 0"),
+    ("resync 0 0 0", "resync 7 0 0 0 0"),
+    ("start 0 0 0", "start 0 1 0 0 0"),
+    ("write 4 1 6", "write 0 1 1 2 0"),
+];
+
 /// A stored input with what it shows and the lines that are due.
 pub struct Stored {
     pub name: &'static str,
@@ -145,7 +166,7 @@ fn with_layout(layout: usize) -> Stored {
     Stored { name: "seven measures", input, output: [COLUMNS, "format 1 0 0 0 0"].map(String::from).to_vec() }
 }
 
-/// The customer's session as it is printed, those of the marked examples, and ones with seven measures.
+/// The customer's session as it is printed, those worked out by hand, and ones with seven measures.
 pub fn all() -> Vec<Stored> {
     let output = OUTPUT.lines().map(String::from).collect();
     let printed = Stored { name: "the printed session", input: INPUT.into(), output };

@@ -195,17 +195,13 @@ impl Book {
         }
     }
 
-    /// Clears the array's members. The marks of each stripe whose P or Q was on one of them go; if there was such a
-    /// stripe and no mark is left, the mode is 0.
+    /// Clears the array's members. The marks of each stripe whose P or Q was on one of them go.
     fn rebuild(&mut self) {
         let log = self.m.d + 2;
         let lost: Vec<usize> = self.members.iter().copied().filter(|&member| member != log).collect();
         let made_afresh: Vec<bool> =
             (0..self.m.s).map(|stripe| lost.iter().any(|&member| self.after_p(member, stripe) < 2)).collect();
         self.marks.retain(|mark| !made_afresh[mark / self.m.d]);
-        if made_afresh.contains(&true) && self.marks.is_empty() {
-            self.mode = 0;
-        }
         self.members.retain(|&member| member == log);
     }
 }

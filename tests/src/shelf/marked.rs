@@ -36,12 +36,13 @@ const K9: [Step; 10] = [
     (Call::FullResync, &[], [8, 2, 1, 2], &[0, 5], &[]),
 ];
 
-/// K8 with P or Q gone beside disk 0: block 0 comes from the other parity, and the rebuild drops the list.
+/// K8 with P or Q gone beside disk 0: block 0 comes from the other parity; the rebuild drops the list, and mode 1
+/// remains.
 const BESIDE_P: [Step; 4] = [
     (Call::Fail(0), &[], [0, 1, 1, 2], &[0], &[]),
     (Call::Fail(3), &[], [0, 1, 1, 2], &[0, 3], &[]),
     (read(0, 3), &[99, 99, 99], [0, 1, 1, 2], &[0, 3], &[Data(&[1, 7, 3])]),
-    (Call::Rebuild, &[], [0, 0, 0, 0], &[], &[Array(&[1, 7, 3, 5, 3]), List(&[])]),
+    (Call::Rebuild, &[], [0, 1, 0, 0], &[], &[Array(&[1, 7, 3, 5, 3]), List(&[])]),
 ];
 
 /// The same with Q gone.
@@ -49,7 +50,7 @@ const BESIDE_Q: [Step; 4] = [
     (Call::Fail(4), &[], [0, 1, 1, 2], &[4], &[]),
     (Call::Fail(0), &[], [0, 1, 1, 2], &[0, 4], &[]),
     (read(0, 1), &[99], [0, 1, 1, 2], &[0, 4], &[Data(&[1])]),
-    (Call::Rebuild, &[], [0, 0, 0, 0], &[], &[Array(&[1, 7, 3, 5, 3]), List(&[])]),
+    (Call::Rebuild, &[], [0, 1, 0, 0], &[], &[Array(&[1, 7, 3, 5, 3]), List(&[])]),
 ];
 
 /// K9 with P gone in place of disk 0: no data block is wanted, so the rebuild is not withheld; the log stays failed.

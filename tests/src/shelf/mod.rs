@@ -16,6 +16,7 @@ pub mod order;
 mod pair;
 pub mod printed;
 pub mod random;
+pub mod rebuilds;
 mod records;
 pub mod requests;
 mod roles;

@@ -5,8 +5,7 @@ use super::calls::{Buffer, Call, Measures};
 use super::layout::List as Words;
 use super::model::NONE as N;
 use super::pair::Pair;
-use super::script::Left::{Array, List, Log, Stripe as Told};
-use super::script::{read, write, Script, Step};
+use super::script::{read, write};
 use super::stand::Stand;
 use crate::Outcome;
 
@@ -78,16 +77,16 @@ const FROM_3: &[[u32; 3]] = &[[9, 6, 7], [12, N, 9], [13, N, 10], [14, 8, N]];
 
 /// Member 4 has P of stripe 0, Q of stripe 1, data of the others. Nothing is stale; one stripe is: where it has P,
 /// where it has Q, where its block has a Cur, is unlisted, has an Ori only; some are; all are, listed in falling order
-/// too. At last member 2 fails, which has P and Q in the middle.
+/// too. At last member 2 fails, which has P and Q in the middle. The mode remains.
 const ONE_FAILS: [Case; 13] = [
     (0, &[], &[4], [0, 0, 0], &[], [F, F, F, F, F]),
-    (1, &[], &[4], [0, 0, 0], &[], [F, F, F, F, F]),
-    (1, &[0], &[4], [0, 0, 0], &[], [M, F, F, F, F]),
-    (1, &[1], &[4], [0, 0, 0], &[], [F, M, F, F, F]),
+    (1, &[], &[4], [0, 1, 0], &[], [F, F, F, F, F]),
+    (1, &[0], &[4], [0, 1, 0], &[], [M, F, F, F, F]),
+    (1, &[1], &[4], [0, 1, 0], &[], [F, M, F, F, F]),
     (1, &[2], &[4], [0, 1, 2], &[[6, 0, 1]], [F, F, S, F, F]),
     (1, &[3], &[4], [0, 1, 2], &[[9, 0, 1]], [F, F, F, S, F]),
     (1, &[4], &[4], [0, 1, 3], &[[12, N, 1], [13, N, 2], [14, 0, N]], [F, F, F, F, S]),
-    (1, &[0, 1], &[4], [0, 0, 0], &[], [M, M, F, F, F]),
+    (1, &[0, 1], &[4], [0, 1, 0], &[], [M, M, F, F, F]),
     (1, &[0, 2], &[4], [0, 1, 4], &[[6, 2, 3]], [M, F, S, F, F]),
     (1, &[3, 1], &[4], [0, 1, 4], &[[9, 0, 1]], [F, M, F, S, F]),
     (1, ALL, &[4], [0, 1, 11], FROM_2, [M, M, S, S, S]),
@@ -120,11 +119,12 @@ const TWO_FAIL: [Case; 7] = [
     (1, ALL, &[2, 4], [0, 1, 11], &[[12, N, 9], [13, N, 10], [14, 8, N]], [M, M, M, M, S]),
     (1, ALL, &[1, 3], [0, 1, 11], &[[1, 0, 1]], [S, M, M, M, M]),
     (1, ALL, &[1, 4], [0, 1, 11], &[[6, 4, 5]], [M, M, S, M, M]),
-    (1, &[0, 4], &[0, 4], [0, 0, 0], &[], [M, F, F, F, M]),
+    (1, &[0, 4], &[0, 4], [0, 1, 0], &[], [M, F, F, F, M]),
     (2, ALL, &[1, 3], [0, 0, 0], &[], [M, M, M, M, M]),
 ];
 
-/// The log fails too, with which mode 1 becomes 2 where blocks are listed. Only data of a stale stripe is withheld.
+/// The log fails too, with which mode 1 becomes 2 where blocks are listed, else 0. Only data of a stale stripe is
+/// withheld.
 const LOG_FAILS: [Case; 10] = [
     (0, &[], &[LOG, 4], [0, 0, 0], &[], [F, F, F, F, F]),
     (1, &[], &[4, LOG], [0, 0, 0], &[], [F, F, F, F, F]),
@@ -139,18 +139,19 @@ const LOG_FAILS: [Case; 10] = [
 ];
 
 /// Where parity is fixed, P is on member 3 and Q on member 4: with either of them every stripe is made and the whole
-/// list dropped, with a data disk none.
-const FIXED: [Case; 14] = [
+/// list dropped, with a data disk none. Mode 1 remains where the log is sound.
+const FIXED: [Case; 15] = [
+    (0, &[], &[3], [0, 0, 0], &[], [F, F, F, F, F]),
     (1, &[], &[0], [0, 1, 0], &[], [F, F, F, F, F]),
-    (1, &[], &[3], [0, 0, 0], &[], [F, F, F, F, F]),
-    (1, &[2], &[4], [0, 0, 0], &[], [F, F, M, F, F]),
-    (1, ALL, &[4], [0, 0, 0], &[], [M, M, M, M, M]),
-    (1, ALL, &[3], [0, 0, 0], &[], [M, M, M, M, M]),
+    (1, &[], &[3], [0, 1, 0], &[], [F, F, F, F, F]),
+    (1, &[2], &[4], [0, 1, 0], &[], [F, F, M, F, F]),
+    (1, ALL, &[4], [0, 1, 0], &[], [M, M, M, M, M]),
+    (1, ALL, &[3], [0, 1, 0], &[], [M, M, M, M, M]),
     (1, ALL, &[0], [0, 1, 11], FROM_0, [S, S, S, S, S]),
     (1, ALL, &[0, 1], [0, 1, 11], FROM_0, [S, S, S, S, S]),
     (1, ALL, &[2, 1], [0, 1, 11], FROM_0, [S, S, S, S, S]),
-    (1, ALL, &[2, 4], [0, 0, 0], &[], [M, M, M, M, M]),
-    (1, ALL, &[3, 4], [0, 0, 0], &[], [M, M, M, M, M]),
+    (1, ALL, &[2, 4], [0, 1, 0], &[], [M, M, M, M, M]),
+    (1, ALL, &[3, 4], [0, 1, 0], &[], [M, M, M, M, M]),
     (1, ALL, &[LOG, 3], [0, 0, 0], &[], [M, M, M, M, M]),
     (1, ALL, &[LOG, 0], [14, 2, 11], FROM_0, [S, S, S, S, S]),
     (2, ALL, &[1], [0, 2, 11], FROM_1, [M, S, S, S, S]),
@@ -272,17 +273,19 @@ fn left(stale: &[usize], failed: &[usize]) -> (usize, Vec<usize>) {
 }
 
 /// Rebuilds the shelf in mode 1 with these stripes stale and these members failed; fails unless those stripes are left
-/// stale which must be, with all that is listed of them, and each other one has the parity of its data.
+/// stale which must be, with all that is listed of them, and each other one has the parity of its data. The mode is 1
+/// then, or where the log failed 2 if a stripe is left and 0 if none is.
 fn rebuilt_by_parity(stale: &[usize], failed: &[usize], stand: &mut Stand) -> Result<(), String> {
     let (code, left) = left(stale, failed);
     let mut pair = reached(1, 1, stale, stand)?;
     fail(&mut pair, failed, stand)?;
     let found = pair.step(Call::Rebuild, Buffer::empty(), stand)?;
-    let (mode, next) = match (code, left.is_empty()) {
-        (_, true) => (0, 0),
-        (14, _) => (2, stale.iter().map(|&stripe| RECORDS[stripe]).sum()),
-        _ => (1, stale.iter().map(|&stripe| RECORDS[stripe]).sum()),
+    let mode = match (failed.contains(&LOG), left.is_empty()) {
+        (false, _) => 1,
+        (true, true) => 0,
+        (true, false) => 2,
     };
+    let next = if left.is_empty() { 0 } else { stale.iter().map(|&stripe| RECORDS[stripe]).sum() };
     let listed: Vec<usize> = left.iter().flat_map(|&stripe| LISTED[stripe]).copied().collect();
     let r = pair.shelf.record;
     let addresses: Vec<usize> = Words::of(r.measures, &pair.shelf.list.bytes).entries().into_keys().collect();
@@ -312,75 +315,6 @@ fn every_rebuild(stand: &mut Stand) -> Result<usize, String> {
     Ok(32 * sets.len())
 }
 
-/// Two stripes only: stripe 0 has Q on member 0, its data on members 1 to 3 and P on member 4; stripe 1 has its data on
-/// members 0 to 2, P on member 3 and Q on member 4. With members 1 and 2 no parity is lost, and list and mode remain,
-/// mode 1 with nothing listed too. With member 3 only stripe 1 is made, which is not stale.
-const FEW_STRIPES: [Step; 17] = [
-    (write(0, 6), &[1, 2, 3, 4, 5, 6], [0, 0, 0, 0], &[], &[Array(&[9, 4, 1, 5, 2, 6, 3, 7, 0, 22])]),
-    (Call::Fail(1), &[], [0, 0, 0, 0], &[1], &[]),
-    (Call::Rebuild, &[], [0, 0, 0, 0], &[], &[Array(&[9, 4, 1, 5, 2, 6, 3, 7, 0, 22])]),
-    (Call::Start, &[], [0, 1, 0, 0], &[], &[]),
-    (Call::Fail(1), &[], [0, 1, 0, 0], &[1], &[]),
-    (Call::Rebuild, &[], [0, 1, 0, 0], &[], &[Array(&[9, 4, 1, 5, 2, 6, 3, 7, 0, 22])]),
-    (Call::Fail(2), &[], [0, 1, 0, 0], &[2], &[]),
-    (Call::Fail(1), &[], [0, 1, 0, 0], &[1, 2], &[]),
-    (Call::Rebuild, &[], [0, 1, 0, 0], &[], &[Array(&[9, 4, 1, 5, 2, 6, 3, 7, 0, 22])]),
-    (
-        write(1, 1),
-        &[21],
-        [0, 1, 1, 2],
-        &[],
-        &[Array(&[9, 4, 1, 5, 21, 6, 3, 7, 0, 22]), Log(&[2, 21, 0, 0]), List(&[N, 0, 1, 0, 1, N])],
-    ),
-    (Call::Fail(2), &[], [0, 1, 1, 2], &[2], &[]),
-    (Call::Fail(1), &[], [0, 1, 1, 2], &[1, 2], &[]),
-    (Call::Rebuild, &[], [0, 1, 1, 2], &[], &[Array(&[9, 4, 1, 5, 21, 6, 3, 7, 0, 22])]),
-    (Call::Fail(3), &[], [0, 1, 1, 2], &[3], &[]),
-    (Call::Rebuild, &[], [0, 1, 1, 2], &[], &[Array(&[9, 4, 1, 5, 21, 6, 3, 7, 0, 22])]),
-    (Call::Fail(4), &[], [0, 1, 1, 2], &[4], &[]),
-    (Call::Rebuild, &[], [0, 0, 0, 0], &[], &[Array(&[39, 4, 1, 5, 21, 6, 3, 7, 23, 22]), List(&[])]),
-];
-
-/// The same with nothing listed and a member that has parity: the mode becomes 0.
-const FEW_STRIPES_END: [Step; 3] = [
-    (Call::Start, &[], [0, 1, 0, 0], &[], &[]),
-    (Call::Fail(3), &[], [0, 1, 0, 0], &[3], &[]),
-    (Call::Rebuild, &[], [0, 0, 0, 0], &[], &[Array(&[39, 4, 1, 5, 21, 6, 3, 7, 23, 22])]),
-];
-
-/// The same in mode 2, after stripe 0 was resynced: stripe 1 stays stale, and the mode remains. With the log failed too
-/// member 1, which has data of stripe 1, is not rebuilt.
-const FEW_STRIPES_TRANSITIONAL: [Step; 10] = [
-    (write(0, 6), &[1, 2, 3, 4, 5, 6], [0, 0, 0, 0], &[], &[Array(&[9, 4, 1, 5, 2, 6, 3, 7, 0, 22])]),
-    (Call::Start, &[], [0, 1, 0, 0], &[], &[]),
-    (
-        write(1, 1),
-        &[21],
-        [0, 1, 1, 2],
-        &[],
-        &[Array(&[9, 4, 1, 5, 21, 6, 3, 7, 0, 22]), Log(&[2, 21, 0, 0]), List(&[N, 0, 1, 0, 1, N])],
-    ),
-    (
-        write(3, 1),
-        &[24],
-        [0, 1, 2, 4],
-        &[],
-        &[Array(&[9, 24, 1, 5, 21, 6, 3, 7, 0, 22]), Log(&[2, 21, 4, 24]), List(&[N, 0, 1, 0, 1, 1, 3, 2, 3, N])],
-    ),
-    (
-        Call::Resync,
-        &[],
-        [0, 2, 1, 4],
-        &[],
-        &[Array(&[39, 24, 1, 5, 21, 6, 3, 7, 23, 22]), List(&[N, 0, 3, 2, 3, N]), Told(0)],
-    ),
-    (Call::Fail(2), &[], [0, 2, 1, 4], &[2], &[]),
-    (Call::Rebuild, &[], [0, 2, 1, 4], &[], &[Array(&[39, 24, 1, 5, 21, 6, 3, 7, 23, 22])]),
-    (Call::Fail(5), &[], [0, 2, 1, 4], &[5], &[]),
-    (Call::Fail(1), &[], [0, 2, 1, 4], &[1, 5], &[]),
-    (Call::Rebuild, &[], [14, 2, 1, 4], &[1, 5], &[]),
-];
-
 /// Makes the rebuilds.
 pub fn group(_seed: u64) -> Outcome {
     let stand = &mut Stand::default();
@@ -389,11 +323,8 @@ pub fn group(_seed: u64) -> Outcome {
         cases += all_rebuilt(1, rotating, stand)?;
     }
     let every = every_rebuild(stand)?;
-    Script::rotating(3, 2, 1, [4, 2, 4], stand)?.play(&[&FEW_STRIPES[..], &FEW_STRIPES_END].concat(), stand)?;
-    Script::rotating(3, 2, 1, [4, 2, 4], stand)?.play(&FEW_STRIPES_TRANSITIONAL, stand)?;
     Ok(format!(
-        "{cases} rebuilds by hand, {every} with every set of stale stripes and of failed members, and those of few \
-         stripes; {} calls",
+        "{cases} rebuilds by hand, {every} with every set of stale stripes and of failed members; {} calls",
         stand.calls
     ))
 }

@@ -334,8 +334,8 @@ impl Work {
         stripe
     }
 
-    /// Rebuilds each stripe. If the parity of one was made and the list ends empty, the mode becomes 0; else the mode
-    /// remains.
+    /// Rebuilds each stripe and clears the array's flags. The mode changes only with the last listed block that is
+    /// dropped.
     fn rebuild(&mut self, shelf: &Shelf) {
         let (sight, before) = (Sight::of(shelf), self.entries.len());
         let (mut filled, mut afresh) = (BTreeSet::new(), BTreeSet::new());
@@ -344,20 +344,18 @@ impl Work {
             afresh.extend(self.make_lost_parity(&sight, stripe));
         }
         let (left, mode) = (self.entries.len(), shelf.record.mode);
-        if !afresh.is_empty() && left == 0 {
-            self.record.mode = 0;
-        }
         self.record.failed[..self.m.d + 2].fill(0);
         let events = &mut self.events;
         events.add(Event::RebuildWithoutLog, sight.is_failed(self.m.d + 2));
         events.add(Event::RebuildData, !filled.is_empty() && before == 0);
         events.add(Event::RebuildDataListed, !filled.is_empty() && before > 0);
-        events.add(Event::RebuildParity, !afresh.is_empty() && before == 0);
+        events.add(Event::RebuildDataAccelerating, afresh.is_empty() && before == 0 && mode == 1);
+        events.add(Event::RebuildParityNormal, !afresh.is_empty() && mode == 0);
+        events.add(Event::RebuildParityAccelerating, !afresh.is_empty() && before == 0 && mode == 1);
         events.add(Event::RebuildParityListed, !afresh.is_empty() && before > 0);
         events.add(Event::RebuildDropsNone, before > 0 && left == before);
-        events.add(Event::RebuildDropsLast, before > 0 && left == 0);
-        events.add(Event::RebuildEndsAccelerating, mode == 1 && self.record.mode == 0);
-        events.add(Event::RebuildGoesOnAccelerating, mode == 1 && self.record.mode == 1 && left == 0);
+        events.add(Event::RebuildDropsLastAccelerating, before > 0 && left == 0 && mode == 1);
+        events.add(Event::RebuildDropsLastTransitional, before > 0 && left == 0 && mode == 2);
         events.add(Event::RebuildDropsSome, 0 < left && left < before);
         events.add(Event::RebuildBothOfOne, !filled.is_disjoint(&afresh));
     }

@@ -2,7 +2,6 @@
 -- Assumes nothing.
 use mathlib.Core.Bool.{Bool, true, false, _&&_}
 use mathlib.Core.List.{List}
-use mathlib.Core.Logic.{inl, inr}
 use mathlib.Core.Path.{_≡_, refl, sym, ap, ap₂, _∙_, subst}
 use Prim.Native.Nat.{ℕ, _≤_, _<_}
 use native.Mathlib.Decide.{ℕ-discrete}
@@ -12,13 +11,13 @@ use borrow.Author.Tests.{eq-eqb, lt-ltb, le-ltb, eqb-true, eqb-false}
 use Rattle.stripe.proofs.Laws.{one-to-one}
 use Rattle.shelf.specs.Counting.{choose, bit, count, any, setAt}
 use Rattle.shelf.specs.Members.{InRange, arrayMembers, logMember, allMembers, roleP, roleQ, memberAt, IsBlock}
-use Rattle.shelf.specs.State.{Log, State, isSome, listed, stale, marksIn, lowestStale}
+use Rattle.shelf.specs.State.{State, isSome, listed, stale, marksIn, lowestStale}
 use Rattle.shelf.specs.Status.{start, fail, resync, rebuild, newLog, fullResync}
-use Rattle.shelf.specs.Calls.{inMode, nextLeft, modeLeft, settled, made, remade, resynced, blockAt, parityFailed, arrayCleared, dropped, modeRebuilt, rebuilt, modeWithout, work, code}
+use Rattle.shelf.specs.Calls.{inMode, nextLeft, modeLeft, settled, made, remade, resynced, blockAt, parityFailed, arrayCleared, rebuilt, modeWithout, work, code}
 use Rattle.shelf.specs.Book.{Marks, Book, closed, bookWork}
 use Rattle.shelf.specs.declared.record.Geometry.{Geometry}
 use Rattle.shelf.proofs.general.CountLaws.{setAt-here, setAt-same, setAt-other, setRow-other, first-ext, any-none, count-mono, count-at, first-found, first-none}
-use Rattle.shelf.proofs.general.TestLaws.{cases, clash, or-left, or-right, and-right, and-false, choose-true, choose-false}
+use Rattle.shelf.proofs.general.TestLaws.{cases, clash, or-left, or-right, and-false, choose-true, choose-false}
 use Rattle.shelf.proofs.agreement.ListedLaws.{never-some, unlisted, dropped-listed, marksIn-ext, stale-ext, marks-none, none-marks, no-marks}
 use Rattle.shelf.proofs.agreement.Agreement.{Nearly, Valid, Agrees, all-sound}
 use Rattle.shelf.proofs.agreement.StatusLaws.{start-passed, fail-passed, resync-passed, rebuild-passed, newLog-passed, fullResync-passed}
@@ -384,21 +383,8 @@ module _ (g : Geometry) (Y : InRange g) (s : State) (b : Book) (A : Agrees g s b
       (λ e. simp (le-ltb (logMember g) (arrayMembers g) (omega arith)) at e)
       (λ x t _. or-left (s .failed (memberAt g x (roleP g))) (s .failed (memberAt g x (roleQ g))) t)
       (λ x t _. or-right (s .failed (memberAt g x (roleP g))) (s .failed (memberAt g x (roleQ g))) t)
-      same-marks (ap (arrayCleared g) (A .near .failed))
-      (λ i. modeRebuilt (any (g .s) (parityFailed g (A .near .failed i))) (marksIn-ext g (listed left) _ same-marks i) (A .near .mode i))
-      (cases ends
-      (λ t. inr (simp t, eqb-true _ _ (and-right (any (g .s) lost) (eqb (marksIn g (listed left)) 0) t)))
-      (λ t. inl (simp t)))
+      (λ x i hx hi. dropped-listed (s .log) lost x i ∙ (λ j. choose (parityFailed g (A .near .failed j) x) false (A .near .marks x i hx hi j)))
+      (ap (arrayCleared g) (A .near .failed))
     where
       lost : ℕ → Bool
       lost = parityFailed g (s .failed)
-
-      left : Log
-      left = dropped (s .log) (parityFailed g (s .failed))
-
-      same-marks : (x i : ℕ) → x < g .s → i < g .d → listed left x i ≡ choose (parityFailed g (b .failed) x) false (b .state .marks x i)
-      same-marks x i hx hi = dropped-listed (s .log) lost x i ∙ (λ j. choose (parityFailed g (A .near .failed j) x) false (A .near .marks x i hx hi j))
-
-      -- the mode becomes 0
-      ends : Bool
-      ends = any (g .s) (parityFailed g (s .failed)) && eqb (marksIn g (listed left)) 0

@@ -3,7 +3,7 @@
 use mathlib.Core.Bool.{Bool, true, false, _&&_}
 use mathlib.Core.List.{List}
 use mathlib.Core.Logic.{_⊎_, inl, inr, ⊎-elim}
-use mathlib.Core.Path.{_≡_, refl, sym, ap, ap₂, _∙_}
+use mathlib.Core.Path.{_≡_, sym, ap, ap₂, _∙_}
 use Prim.Native.Nat.{ℕ, _<_}
 use native.Mathlib.Omega.{arith}
 use lib.Dec.{eqb}
@@ -11,8 +11,7 @@ use borrow.Author.Tests.{eq-eqb, eqb-true, eqb-false}
 use Rattle.shelf.specs.Counting.{choose, setAt}
 use Rattle.shelf.specs.Members.{logMember, allMembers, roleP, roleQ, memberAt}
 use Rattle.shelf.specs.State.{State, isSome, listed, marksIn}
-use Rattle.shelf.specs.Status.{row}
-use Rattle.shelf.specs.Calls.{inMode, withFlags, nextLeft, modeLeft, settled, dropped, afresh, made}
+use Rattle.shelf.specs.Calls.{withFlags, nextLeft, modeLeft, settled, dropped, afresh, made}
 use Rattle.shelf.specs.Book.{Book, closed}
 use Rattle.shelf.specs.declared.record.Geometry.{Geometry}
 use Rattle.shelf.proofs.general.CountLaws.{count-mono}
@@ -128,29 +127,27 @@ closed-already g s b A = λ i. record { marks = b .state .marks; used = e i; mod
 
 -- ---- P and Q made afresh in the stripes that pass the test t
 
--- With new disks, blocks held, flags f and mode. The disks of those stripes and all sound disks hold what is held, which in the other stripes is as it
--- was. No member fails; the log, and P and Q of the other stripes, are sound only where they were. The mode is as it was, or 0 where nothing is left
--- listed.
+-- With new disks, blocks held and flags f. The disks of those stripes and all sound disks hold what is held, which in the other stripes is as it
+-- was. No member fails; the log, and P and Q of the other stripes, are sound only where they were.
 module _ (g : Geometry) (s : State) (b : Book) (A : Nearly g s b) (W : Valid g s) (t : ℕ → Bool) (disk held : ℕ → ℕ → List ℕ) (proper : AreBlocks g held)
-    {mode mode' : ℕ} {f f' : ℕ → Bool} {marks : ℕ → ℕ → Bool}
+    {f f' : ℕ → Bool} {marks : ℕ → ℕ → Bool}
     (exact : (x i : ℕ) → x < g .s → i < g .d → (t x ≡ true) ⊎ (f (memberAt g x i) ≡ false) → disk x i ≡ held x i)
     (kept : (x : ℕ) → t x ≡ false → (i : ℕ) → held x i ≡ b .held x i)
     (fewer : (i : ℕ) → f i ≡ true → s .failed i ≡ true) (log-was : f (logMember g) ≡ false → s .failed (logMember g) ≡ false)
     (p-was : (x : ℕ) → t x ≡ false → f (memberAt g x (roleP g)) ≡ false → s .failed (memberAt g x (roleP g)) ≡ false)
     (q-was : (x : ℕ) → t x ≡ false → f (memberAt g x (roleQ g)) ≡ false → s .failed (memberAt g x (roleQ g)) ≡ false)
-    (same-marks : (x i : ℕ) → x < g .s → i < g .d → listed (dropped (s .log) t) x i ≡ marks x i) (same-flags : f ≡ f') (same-mode : mode ≡ mode')
-    (ends : (mode ≡ s .mode) ⊎ ((mode ≡ 0) × (marksIn g (listed (dropped (s .log) t)) ≡ 0))) where
+    (same-marks : (x i : ℕ) → x < g .s → i < g .d → listed (dropped (s .log) t) x i ≡ marks x i) (same-flags : f ≡ f') where
   -- a member that was sound is
   still : (i : ℕ) → s .failed i ≡ false → f i ≡ false
   still i e = false-is (f i) (λ u. clash (fewer i u) e)
 
-  pub afresh-agrees : Agrees g (settled g (withFlags (inMode (afresh g s t disk) mode) f))
-      (closedBook g (record { held = held; failed = f'; state = record { marks = marks; used = b .state .used; mode = mode' } }))
+  pub afresh-agrees : Agrees g (settled g (withFlags (afresh g s t disk) f))
+      (closedBook g (record { held = held; failed = f'; state = record { marks = marks; used = b .state .used; mode = b .state .mode } }))
   unfolding choose isSome
   afresh-agrees =
       settled-agrees g _ _
       (record {
-        mode = same-mode;
+        mode = A .mode;
         next = A .next;
         failed = same-flags;
         marks = same-marks;
@@ -181,13 +178,13 @@ module _ (g : Geometry) (s : State) (b : Book) (A : Nearly g s b) (W : Valid g s
         whole = λ x i j hx hi hj o l.
             cases (t x) (λ e. clash l (simp e)) (λ e. simp e (A .whole x i j hx hi hj (simp e at o) (simp e at l)));
         two = omega (arith, A .two, count-mono (allMembers g) f (s .failed) (λ i _. fewer i));
-        one = λ e. still (logMember g) (A .one (⊎-elim (λ q. sym q ∙ e) (λ z. absurd (omega (arith, z .0, e))) ends));
+        one = λ e. still (logMember g) (A .one e);
       })
       (record {
         room = W .room;
         fits = omega (arith, W .fits, dropped-fewer g (s .log) t);
-        modes = ⊎-elim (λ q. omega (arith, W .modes, q)) (λ z. omega (arith, z .0)) ends;
-        zero = λ e. ⊎-elim (λ q. omega (arith, W .zero (sym q ∙ e), dropped-fewer g (s .log) t)) (λ z. z .1) ends;
+        modes = W .modes;
+        zero = λ e. omega (arith, W .zero e, dropped-fewer g (s .log) t);
         top = λ i h. still i (W .top i h);
       })
 
@@ -207,4 +204,4 @@ module _ (g : Geometry) (s : State) (b : Book) (A : Nearly g s b) (W : Valid g s
       (λ e. simp e (here i hi ∙ ap (λ (z : ℕ). held z i) (sym (eqb-true x t e))))
       (λ e. simp e (A .sound x i hx hi (⊎-elim (λ y. clash y e) (λ u. u) o) ∙ sym (there x (eqb-false x t e) i))))
       (λ x e. there x (eqb-false x t e)) (λ i e. e) (λ e. e) (λ x _ e. e) (λ x _ e. e)
-      (λ x i hx hi. cases (eqb x t) (λ e. simp e) (λ e. simp e (A .marks x i hx hi))) (A .failed) (A .mode) (inl refl)
+      (λ x i hx hi. cases (eqb x t) (λ e. simp e) (λ e. simp e (A .marks x i hx hi))) (A .failed)

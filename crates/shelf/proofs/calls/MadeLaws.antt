@@ -19,7 +19,7 @@ use Rattle.stripe.proofs.Laws.{made-length, made-others, made-in-p, made-in-q, 
 use Rattle.shelf.specs.Counting.{choose, setAt}
 use Rattle.shelf.specs.Members.{InRange, addressOf, column, blockP, blockQ, placeAt}
 use Rattle.shelf.specs.State.{State, isSome, listed, marksIn, freshState}
-use Rattle.shelf.specs.Calls.{inMode, withFlags, nextLeft, modeLeft, settled, dropped, afresh, made, remade, overwritten}
+use Rattle.shelf.specs.Calls.{withFlags, nextLeft, modeLeft, settled, dropped, afresh, made, remade, overwritten}
 use Rattle.shelf.specs.Words.{words}
 use Rattle.shelf.specs.HashList.{noneWord, Entry, entry, entries, said, valid}
 use Rattle.shelf.specs.Rewriting.{Rewritten, dropStripes, dropStripe}
@@ -205,10 +205,10 @@ module _ (g : Geometry) (s : State) (t : ℕ → Bool) (Y : InRange g) (k₀ k :
       ∙ marksIn-ext g (listedBy g l) (listed (dropped (s .log) t))
       (λ x i hx hi. ap₂ (λ (o c : Option ℕ). isSome o || isSome c) (dropped-ori x i hx hi) (dropped-cur x i hx hi))
 
-  -- whatever disks, mode and flags it is settled with
-  pub afresh-says : (disk : ℕ → ℕ → List ℕ) (m : ℕ) (f : ℕ → Bool) → HoldsList g (settled g (withFlags (inMode (afresh g s t disk) m) f)) k l
+  -- whatever disks and flags it is settled with
+  pub afresh-says : (disk : ℕ → ℕ → List ℕ) (f : ℕ → Bool) → HoldsList g (settled g (withFlags (afresh g s t disk) f)) k l
   unfolding settled
-  afresh-says disk m f =
+  afresh-says disk f =
       record {
         length-of = ap length (W .0) ∙ length-bytes _ ∙ (let q = length-encode g (dropStripes (g .d) t (entries (words l₀) g)) (Y .h-least) (Y .e-most) in omega (arith, q));
         passes = ap (λ (m : ℕ). valid (words l) g (nextLeft m (s .log .next)) k) (sym dropped-marks)
@@ -221,7 +221,7 @@ module _ (g : Geometry) (s : State) (t : ℕ → Bool) (Y : InRange g) (k₀ k :
 pub made-says : (g : Geometry) (s : State) (t : ℕ) (row : ℕ → List ℕ) → InRange g → (k₀ k : ℕ) (l₀ l : List ℕ) → HoldsList g s k₀ l₀
     → Rewritten g (dropStripe (g .d) t (entries (words l₀) g)) l k → HoldsList g (made g s t row) k l
 unfolding made
-made-says g s t row Y k₀ k l₀ l Z W = afresh-says g s (λ x. eqb x t) Y k₀ k l₀ l Z W _ _ _
+made-says g s t row Y k₀ k l₀ l Z W = afresh-says g s (λ x. eqb x t) Y k₀ k l₀ l Z W _ _
 
 -- the record with k entries left
 pub made-record : (g : Geometry) (s : State) (t : ℕ) (row : ℕ → List ℕ) (r : Shelf) (k : ℕ) (l : List ℕ) → InRange g → r ≡ recordOf g s → HoldsList g (made g s t row) k l

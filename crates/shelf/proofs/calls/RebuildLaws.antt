@@ -2,23 +2,23 @@
 -- Assumes nothing.
 use mathlib.Core.Bool.{Bool, true, false, not, _&&_}
 use mathlib.Core.List.{List}
-use mathlib.Core.Path.{_≡_, refl, sym, ap, ap₂, _∙_, subst}
+use mathlib.Core.Path.{_≡_, refl, sym, ap, _∙_, subst}
 use Prim.Native.Nat.{ℕ, _+_, _-_, _≤_, _<_}
 use native.Mathlib.Decide.{ℕ-discrete}
 use native.Mathlib.Omega.{arith}
-use lib.Dec.{eqb, ltb}
+use lib.Dec.{ltb}
 use lib.ListN.{length, getD, set, length-set}
 use lib.Seq.{getD-set-same, getD-set-other}
-use borrow.Author.Tests.{eq-eqb, ltb-true, ltb-false}
+use borrow.Author.Tests.{ltb-true, ltb-false}
 use Rattle.shelf.specs.Counting.{count, any, Tests}
 use Rattle.shelf.specs.Members.{memberAt}
 use Rattle.shelf.specs.State.{State, listed, stale, marksIn}
 use Rattle.shelf.specs.Status.{rebuild, arrayFailed, arraySound, withheld, dataWithheld, row, codeOf}
-use Rattle.shelf.specs.Calls.{nextLeft, modeLeft, settled, dropped, arrayCleared, modeRebuilt, rebuilt, work}
+use Rattle.shelf.specs.Calls.{nextLeft, modeLeft, settled, dropped, arrayCleared, rebuilt, work}
 use Rattle.shelf.specs.Words.{words}
 use Rattle.shelf.specs.HashList.{Measures, Lists, staleIn, valid}
 use Rattle.shelf.specs.Lent.{Lent, lent, flagAt, flagsOf, stateOf, listedBy, triesList, numberOf, recordOf, logOf, Leaves, Answered}
-use Rattle.shelf.specs.Records.{failedRole, withMode, withListed, withCleared}
+use Rattle.shelf.specs.Records.{failedRole, withCleared}
 use Rattle.shelf.specs.Reading.{ListReady}
 use Rattle.shelf.specs.Rewriting.{Rewritten}
 use Rattle.shelf.specs.Rebuilding.{Rebuildable, parityFailedAt, dataFailedAt, withheldAt, rebuiltTo, rebuiltRecord, keptEntries}
@@ -144,22 +144,12 @@ cleared-all r i fs e C =
 
 -- ---- the record after it
 
--- the mode is 0 where P and Q were made and nothing is left listed, else as it was
-pub settled-normal : (r c m : Shelf) (made : Bool) (n : ℕ) → made ≡ true → n ≡ 0 → c ≡ withCleared r → m ≡ withMode c 0 → withListed m n ≡ rebuiltRecord r made n
-settled-normal r c m made n t z ec em =
-    ap (λ (v : Shelf). withListed v n) (em ∙ ap (λ (v : Shelf). withMode v 0) ec
-    ∙ ap (λ (k : ℕ). withMode (withCleared r) k) (sym (choose-true (made && eqb n 0) 0 (r .mode) (ap₂ _&&_ t (eq-eqb n 0 z)))))
-
-pub settled-kept : (r c : Shelf) (made : Bool) (n : ℕ) → (made && eqb n 0) ≡ false → c ≡ withCleared r → withListed c n ≡ rebuiltRecord r made n
-settled-kept r c made n t ec =
-    ap (λ (v : Shelf). withListed v n) (ec ∙ ap (λ (k : ℕ). withMode (withCleared r) k) (sym (choose-false (made && eqb n 0) 0 (r .mode) t)))
-
 -- the count is the record's own
-pub settled-by : (r o : Shelf) (made : Bool) (n : ℕ) (l l' : List ℕ) → o ≡ rebuiltRecord r made n → Rewritten (r .geometry) (keptEntries r l) l' n
-    → Rewritten (r .geometry) (keptEntries r l) l' (o .listed) × (o ≡ rebuiltRecord r made (o .listed))
-settled-by r o made n l l' e W =
+pub settled-by : (r o : Shelf) (n : ℕ) (l l' : List ℕ) → o ≡ rebuiltRecord r n → Rewritten (r .geometry) (keptEntries r l) l' n
+    → Rewritten (r .geometry) (keptEntries r l) l' (o .listed) × (o ≡ rebuiltRecord r (o .listed))
+settled-by r o n l l' e W =
     let k : n ≡ o .listed = sym (ap (λ (v : Shelf). v .listed) e) in
-    (subst (Rewritten (r .geometry) (keptEntries r l) l') k W, e ∙ ap (rebuiltRecord r made) k)
+    (subst (Rewritten (r .geometry) (keptEntries r l) l') k W, e ∙ ap (rebuiltRecord r) k)
 
 -- ---- the call
 
@@ -193,7 +183,7 @@ module _ (r : Shelf) (a n l : List ℕ) where
   settle-asks e =
       let P = passed e in (P .range .d-most, (measures-of g l (P .range) (P .list), record { next = r .next; passing = P .valid }))
 
-  module _ (e : 0 ≡ numberOf r (length a) (length n) l rebuild) (made : Bool) (em : made ≡ any (r .geometry .s) (parityFailedAt r)) (k : ℕ) (l' : List ℕ)
+  module _ (e : 0 ≡ numberOf r (length a) (length n) l rebuild) (k : ℕ) (l' : List ℕ)
       (W : Rewritten (r .geometry) (keptEntries r l) l' k) (bytes : (i : ℕ) → getD l' i 0 < 256) where
     before-says : HoldsList g st (r .listed) l
     unfolding stateOf
@@ -202,12 +192,12 @@ module _ (r : Shelf) (a n l : List ℕ) where
     after-marks : k ≡ marksIn g (listed (dropped (st .log) (parityFailedAt r)))
     after-marks = dropped-marks g st (parityFailedAt r) (passed e .range) (r .listed) k l l' before-says W
 
-    after-record : rebuiltRecord r made k ≡ recordOf g (rebuilt g st)
+    after-record : rebuiltRecord r k ≡ recordOf g (rebuilt g st)
     unfolding rebuilt settled stateOf
     after-record = λ i.
         record {
           geometry = g;
-          mode = modeLeft (after-marks i) (modeRebuilt (em i) (after-marks i) (r .mode));
+          mode = modeLeft (after-marks i) (r .mode);
           next = nextLeft (after-marks i) (r .next);
           listed = after-marks i;
           failed = flagsOf (arrayCleared g (flagAt r));
@@ -219,14 +209,14 @@ module _ (r : Shelf) (a n l : List ℕ) where
 
     after-list : HoldsList g (rebuilt g st) k l'
     unfolding rebuilt stateOf
-    after-list = afresh-says g st (parityFailedAt r) (passed e .range) (r .listed) k l l' before-says W _ _ _
+    after-list = afresh-says g st (parityFailedAt r) (passed e .range) (r .listed) k l l' before-says W _ _
 
-    after-leaves : Leaves g (rebuilt g st) (lent (rebuiltRecord r made k) (rebuiltTo (lent r a n l) (g .s)) n l')
+    after-leaves : Leaves g (rebuilt g st) (lent (rebuiltRecord r k) (rebuiltTo (lent r a n l) (g .s)) n l')
     after-leaves =
-        leaves-by g (rebuilt g st) (rebuiltRecord r made k) (rebuiltTo (lent r a n l) (g .s)) n l' (passed e .range) after-record
+        leaves-by g (rebuilt g st) (rebuiltRecord r k) (rebuiltTo (lent r a n l) (g .s)) n l' (passed e .range) after-record
         (rebuilt-reads r a n l (two-failed (passed e)) (rebuild-asks e .ready)) after-log after-list bytes
 
-    pub rebuild-answered : (r' : Shelf) (a' : List ℕ) → a' ≡ rebuiltTo (lent r a n l) (r .geometry .s) → r' ≡ rebuiltRecord r made k → Answered (lent r a n l) rebuild 0 (lent r' a' n l')
+    pub rebuild-answered : (r' : Shelf) (a' : List ℕ) → a' ≡ rebuiltTo (lent r a n l) (r .geometry .s) → r' ≡ rebuiltRecord r k → Answered (lent r a n l) rebuild 0 (lent r' a' n l')
     unfolding work
     rebuild-answered r' a' ea er =
         record {

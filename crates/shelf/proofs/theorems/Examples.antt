@@ -1,6 +1,6 @@
 -- The marked examples K1 to K13 and the printed session of the bench program, proved from the definitions by computation: one statement ranges over
--- the list of the examples, and one over the list of the printed lines. Then three sessions in the rotating layout, by shelf and by book, and the
--- session's shelf as bytes: what format leaves, the layout of array, log and list, and the numbers 1 to 3.
+-- the list of the examples, and one over the list of the printed lines. Then a session in both layouts and two in the rotating one, by shelf and by
+-- book, and the session's shelf as bytes: what format leaves, the layout of array, log and list, and the numbers 1 to 3.
 -- Assumes nothing.
 use mathlib.Core.Bool.{false}
 use mathlib.Core.List.{List, [], _∷_}
@@ -174,18 +174,45 @@ byBook g (l ∷ ls) b =
     (firstByte c (bookCode g c b) (λ a _. b .held (a / g .d) (a % g .d)))
     ∷ byBook g ls t
 
--- shelf and book both give the lines as they are printed
-pub as-printed : (byShelf (small 3) printed (freshState (small 3)) ≡ printed) × (byBook (small 3) printed (freshBook (small 3)) ≡ printed)
+-- shelf and book both give these lines
+abbrev pub Runs : Geometry → List Line → Type 0
+Runs g ls = (byShelf g ls (freshState g) ≡ ls) × (byBook g ls (freshBook g) ≡ ls)
+
+pub as-printed : Runs (small 3) printed
 unfolding double pow2 timesLow times raised inverse from gen block blocksOf pick sum one weight parityP parityQ without restP restQ fromP fromQ fromBoth solved fixed memberOf choose bit count total any first lesser setAt blank blockP blockQ otherMissing workedBack isSome freshState row codeOf settled made remade appendOne append logged writeStripe writeTo blockAt resynced rebuilt work after readBuffer freshBook closed marked usedThen markStripe markTo bookWork bookAfter firstByte byShelf byBook
 as-printed = (refl, refl)
 
--- ---- sessions in the rotating layout: d 2, s stripes, blocks of one byte
+-- ---- sessions in a layout: d 2, s stripes, blocks of one byte
 
-abbrev pub turning : ℕ → Geometry
-turning s = record { d = 2; s = s; b = 1; l = 8; h = 2; e = 4; layout = 1 }
+abbrev pub inLayout : ℕ → ℕ → Geometry
+inLayout layout s = record { d = 2; s = s; b = 1; l = 8; h = 2; e = 4; layout = layout }
 
--- Member 3 has P of stripe 0, Q of stripe 1 and data index 0 of stripe 2. All three are stale when it is rebuilt, and stripe 2 stays so. Member 2 has
--- data index 1 of stripe 0, P of stripe 1 and Q of stripe 2: with the log failed too, it is rebuilt, and the list ends empty.
+-- In either layout member 3 has P or Q of both stripes, and member 1 has data alone. A rebuild of member 3 leaves mode 1, with nothing listed and with a
+-- block listed, which it drops; each time the next write is logged, from record 0 on. A rebuild of member 1 leaves list and mode. In mode 2 a rebuild
+-- of member 3 leaves mode 0, since the list ends empty.
+abbrev pub parityRebuilt : List Line
+parityRebuilt =
+    line start 0 1 0 0 0 ∷
+    line (fail 3) 0 1 0 0 0 ∷
+    line rebuild 0 1 0 0 0 ∷
+    line (write 0 1 (7 ∷ [])) 0 1 1 2 0 ∷
+    line (fail 1) 0 1 1 2 0 ∷
+    line rebuild 0 1 1 2 0 ∷
+    line (fail 3) 0 1 1 2 0 ∷
+    line rebuild 0 1 0 0 0 ∷
+    line start 7 1 0 0 0 ∷
+    line (write 1 1 (8 ∷ [])) 0 1 1 2 0 ∷
+    line (write 2 1 (9 ∷ [])) 0 1 2 4 0 ∷
+    line resync 0 2 1 4 0 ∷
+    line (fail 3) 0 2 1 4 0 ∷
+    line rebuild 0 0 0 0 0 ∷
+    line start 0 1 0 0 0 ∷
+    line (read 2 1 1) 0 1 0 0 9 ∷
+    []
+
+-- The rotating layout, three stripes. Member 3 has P of stripe 0, Q of stripe 1 and data index 0 of stripe 2. All three are stale when it is rebuilt, and
+-- stripe 2 stays so. Member 2 has data index 1 of stripe 0, P of stripe 1 and Q of stripe 2: with the log failed too, it is rebuilt, and the list ends
+-- empty.
 abbrev pub threeKinds : List Line
 threeKinds =
     line start 0 1 0 0 0 ∷
@@ -216,23 +243,9 @@ withheldThere =
     line rebuild 14 2 1 2 0 ∷
     []
 
--- Of two stripes member 1 has neither P nor Q, so the mode remains; member 3 has P of one and Q of the other.
-abbrev pub fewStripes : List Line
-fewStripes =
-    line start 0 1 0 0 0 ∷
-    line (fail 1) 0 1 0 0 0 ∷
-    line rebuild 0 1 0 0 0 ∷
-    line (fail 3) 0 1 0 0 0 ∷
-    line rebuild 0 0 0 0 0 ∷
-    []
-
--- shelf and book both give these lines
-abbrev pub Runs : ℕ → List Line → Type 0
-Runs s ls = (byShelf (turning s) ls (freshState (turning s)) ≡ ls) × (byBook (turning s) ls (freshBook (turning s)) ≡ ls)
-
-pub as-turned : Runs 3 threeKinds × (Runs 3 withheldThere × Runs 2 fewStripes)
-unfolding double pow2 timesLow times raised inverse from gen block blocksOf pick sum one weight parityP parityQ without restP restQ fromP fromQ fromBoth solved memberAfter rotatingP rotatingQ rotatingData rotating memberOf choose bit count total any first lesser setAt blank blockP blockQ otherMissing workedBack isSome freshState row codeOf settled made remade appendOne append logged writeStripe writeTo blockAt resynced rebuilt work after readBuffer freshBook closed marked usedThen markStripe markTo bookWork bookAfter firstByte byShelf byBook
-as-turned = ((refl, refl), ((refl, refl), (refl, refl)))
+pub in-layouts : Runs (inLayout 0 2) parityRebuilt × (Runs (inLayout 1 2) parityRebuilt × (Runs (inLayout 1 3) threeKinds × Runs (inLayout 1 3) withheldThere))
+unfolding double pow2 timesLow times raised inverse from gen block blocksOf pick sum one weight parityP parityQ without restP restQ fromP fromQ fromBoth solved memberAfter rotatingP rotatingQ rotatingData rotating fixed memberOf choose bit count total any first lesser setAt blank blockP blockQ otherMissing workedBack isSome freshState row codeOf settled made remade appendOne append logged writeStripe writeTo blockAt resynced rebuilt work after readBuffer freshBook closed marked usedThen markStripe markTo bookWork bookAfter firstByte byShelf byBook
+in-layouts = ((refl, refl), ((refl, refl), ((refl, refl), (refl, refl))))
 
 -- ---- the session's shelf as bytes
 
