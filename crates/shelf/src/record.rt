@@ -149,13 +149,11 @@ impl Shelf {
         ensures { λ r. ⌜ Tests (arrayMembers (self .geometry)) (failedRole self x) r ⌝ }
     {
         let g = self.geometry;
-        let failed = self.failed;
-        let members = stripe::places::members(g.layout, g.d, x);
         let roles = g.array_members();
         let mut lost = [false; 18];
         let mut i: usize = 0;
         while i < roles {
-            lost[i] = failed[members[i]];
+            lost[i] = self.role_failed(x, i);
             i += 1;
         }
         lost
