@@ -25,25 +25,16 @@ use Rattle.shelf.specs.Rebuilding.{Rebuildable, parityFailedAt, dataFail
 use Rattle.shelf.specs.declared.record.Geometry.{Geometry}
 use Rattle.shelf.specs.declared.record.Shelf.{Shelf}
 use Rattle.shelf.proofs.general.TestLaws.{cases, clash, choose-true, choose-false, and-false, and-left, and-right, same-bool}
-use Rattle.shelf.proofs.general.WalkLaws.{any-turn}
 use Rattle.shelf.proofs.general.CountLaws.{any-ext, any-some, any-found, none-any, count-more}
 use Rattle.shelf.proofs.numbers.TableRows.{row-hit, row-pass}
 use Rattle.shelf.proofs.numbers.InputLaws.{Passed, fine-record, inputs-pass, measures-of}
 use Rattle.shelf.proofs.hashlist.ListMarks.{marks-listed}
 use Rattle.shelf.proofs.agreement.ListedLaws.{marks-none}
 use Rattle.shelf.proofs.lent.LayoutLaws.{flags-are, log-is}
+use Rattle.shelf.proofs.lent.LeavesLaws.{list-here}
 use Rattle.shelf.proofs.calls.MadeLaws.{HoldsList, leaves-by, dropped-marks, afresh-says}
 use Rattle.shelf.proofs.calls.ServedLaws.{held-stale, list-ready}
 use Rattle.shelf.proofs.calls.RefillLaws.{rebuilt-reads}
-
--- ---- a walk downwards over a test
-
-module _ (f : ℕ → Bool) (j : ℕ) (t : Bool) (e : t ≡ f (j - 1)) (pos : 0 < j) where
-  pub walk-hit : t ≡ true → true ≡ any j f
-  walk-hit q = sym (any-some j f (j - 1) (omega (arith, pos)) (sym e ∙ q))
-
-  pub walk-miss : t ≡ false → any (j - 1) f ≡ any j f
-  walk-miss q = any-turn j (j - 1) f (omega (arith, pos)) (sym e ∙ q)
 
 -- ---- row 14, as the code tries it
 
@@ -187,7 +178,7 @@ module _ (r : Shelf) (a n l : List ℕ) where
       (W : Rewritten (r .geometry) (keptEntries r l) l' k) (bytes : (i : ℕ) → getD l' i 0 < 256) where
     before-says : HoldsList g st (r .listed) l
     unfolding stateOf
-    before-says = let P = passed e in record { length-of = P .list; passes = P .valid; ori = λ x i _ _. refl; cur = λ x i _ _. refl }
+    before-says = list-here r a n l (passed e) _ _
 
     after-marks : k ≡ marksIn g (listed (dropped (st .log) (parityFailedAt r)))
     after-marks = dropped-marks g st (parityFailedAt r) (passed e .range) (r .listed) k l l' before-says W

@@ -30,6 +30,7 @@ use Rattle.shelf.specs.declared.record.Shelf.{Shelf}
 use Rattle.shelf.proofs.general.TestLaws.{cases, clash, choose-true, choose-false, and-left}
 use Rattle.shelf.proofs.general.CountLaws.{first-found, first-none}
 use Rattle.shelf.proofs.lent.LayoutLaws.{role-data, role-p, role-q, by-role}
+use Rattle.shelf.proofs.lent.LeavesLaws.{reads-here}
 use Rattle.shelf.proofs.agreement.ListedLaws.{opt-cases, never-some, unlisted, none-listed}
 use Rattle.shelf.proofs.agreement.RowParity.{blockP-ext, blockQ-ext, rest-there}
 use Rattle.shelf.proofs.agreement.ReadLaws.{missing-some, missing-none, missing-parity, missing-failed, few-missing}
@@ -459,14 +460,6 @@ pub record RebuiltUpTo (g : Geometry) (s t : State) (k : ℕ) (a : List ℕ) : T
   pub long : length a ≡ arrayLength g
   pub done : (y i : ℕ) → y < k → y < g .s → i < g .d + 2 → arrayBlock g a y i ≡ roleBlock g t y i
   pub left : (y i : ℕ) → k ≤ y → y < g .s → i < g .d + 2 → arrayBlock g a y i ≡ roleBlock g s y i
-
--- what is lent, read as a state, has the array's blocks
-reads-here : (r : Shelf) (a n l : List ℕ) (x i : ℕ) → i < r .geometry .d + 2 → roleBlock (r .geometry) (stateOf (lent r a n l)) x i ≡ arrayBlock (r .geometry) a x i
-unfolding stateOf
-reads-here r a n l x i hi =
-    let g = r .geometry in
-    let s = stateOf (lent r a n l) in
-    by-role g (λ k. roleBlock g s x k ≡ arrayBlock g a x k) (λ k hk. role-data g s x k hk) (role-p g s x) (role-q g s x) i hi
 
 module _ (r : Shelf) (a n l : List ℕ) (two : count (r .geometry .d + 2) (flagAt r) ≤ 2) (R : Ready (lent r a n l)) where
   abbrev s : State

@@ -17,7 +17,7 @@ use Rattle.shelf.specs.Calls.{inMode, resyncStripe, made, remade, resync
 use Rattle.shelf.specs.Words.{words, bytesOf}
 use Rattle.shelf.specs.HashList.{Measures, Lists, Entry, entries, encode, staleIn, listedIn}
 use Rattle.shelf.specs.Rewriting.{Rewritten, dropStripe}
-use Rattle.shelf.specs.Lent.{Lent, lent, flagAt, flagsOf, stateOf, listedBy, arrayLength, logLength, listLength, badMeasures, badRecord, badLengths, triesList, inputRows, numberOf, arrayBlock, roleBlock, recordOf, logOf, listOf, toldStripe, Leaves, Answered}
+use Rattle.shelf.specs.Lent.{Lent, lent, flagAt, flagsOf, stateOf, listedBy, arrayLength, logLength, listLength, badMeasures, badRecord, badLengths, triesList, inputRows, numberOf, recordOf, logOf, listOf, toldStripe, Leaves, Answered}
 use Rattle.shelf.specs.Records.{withMode, withListed}
 use Rattle.shelf.specs.declared.record.Geometry.{Geometry}
 use Rattle.shelf.specs.declared.record.Shelf.{Shelf}
@@ -25,12 +25,12 @@ use Rattle.shelf.proofs.general.TestLaws.{choose-true, choose-false}
 use Rattle.shelf.proofs.numbers.TableRows.{row-zero}
 use Rattle.shelf.proofs.general.CountLaws.{any-ext, first-ext}
 use Rattle.shelf.proofs.numbers.InputLaws.{Passed, in-range, lengths-pass, inputs-pass, measures-of}
-use Rattle.shelf.proofs.lent.LayoutLaws.{log-is, role-data, role-p, role-q, by-role}
-use Rattle.shelf.proofs.lent.LeavesLaws.{same-flags, marks-here, leaves-here, refused-answered}
+use Rattle.shelf.proofs.lent.LayoutLaws.{log-is}
+use Rattle.shelf.proofs.lent.LeavesLaws.{same-flags, marks-here, blocks-here, list-here, leaves-here, refused-answered}
 use Rattle.shelf.proofs.hashlist.ListMarks.{listed-found}
 use Rattle.shelf.proofs.lent.ListLayout.{list-back}
 use Rattle.shelf.proofs.hashlist.WordLaws.{words-bytes}
-use Rattle.shelf.proofs.calls.MadeLaws.{HoldsArray, HoldsList, says-marks, rowed-same, made-says, made-leaves, Filled, remade-leaves}
+use Rattle.shelf.proofs.calls.MadeLaws.{HoldsList, says-marks, rowed-same, made-says, made-leaves, Filled, remade-leaves}
 
 -- ---- resync
 
@@ -92,25 +92,10 @@ module _ (r : Shelf) (a n l : List ℕ) where
         told t low,
       )
 
-  -- the lowest stale stripe is made
-  held : Passed r (length a) (length n) l → HoldsArray g (inMode (stateOf (lent r a n l)) 2) a
-  unfolding stateOf
-  held P =
-      record {
-        long = P .array;
-        blocks = λ x i hx hi.
-            let s = inMode (stateOf (lent r a n l)) 2 in
-            by-role g (λ k. roleBlock g s x k ≡ arrayBlock g a x k) (λ k hk. role-data g s x k hk) (role-p g s x) (role-q g s x) i hi;
-      }
-
-  -- the record and the list in mode 2
+  -- the lowest stale stripe is made: the record and the log in mode 2
   two-record : length (r .failed) ≡ 19 → Passed r (length a) (length n) l → withMode r 2 ≡ recordOf g (inMode (stateOf (lent r a n l)) 2)
   unfolding stateOf
   two-record len P = λ i. record { geometry = g; mode = 2; next = r .next; listed = sym (marks-here r a n l P) i; failed = same-flags (r .failed) len i }
-
-  two-says : Passed r (length a) (length n) l → HoldsList g (inMode (stateOf (lent r a n l)) 2) (r .listed) l
-  unfolding stateOf
-  two-says P = record { length-of = P .list; passes = P .valid; ori = λ x i _ _. refl; cur = λ x i _ _. refl }
 
   two-log : Passed r (length a) (length n) l → n ≡ logOf g (inMode (stateOf (lent r a n l)) 2)
   unfolding stateOf
@@ -138,13 +123,13 @@ module _ (r : Shelf) (a n l : List ℕ) where
       let two = inMode (stateOf (lent r a n l)) 2 in
       let row : ℕ → List ℕ = stateOf (lent r a n l) .disk t in
       let low : t ≡ resyncStripe g (stateOf (lent r a n l)) = et ∙ lowest-is P in
-      let Z = made-says g two t row (P .range) (r .listed) k l l' (two-says P) W in (
+      let Z = made-says g two t row (P .range) (r .listed) k l l' (list-here r a n l P 2 _) W in (
         record {
           number = e;
           done = λ _.
               subst (λ (s : State). Leaves g s (lent r' a' n l')) (made-is t low ht)
               (subst (λ (h : Lent). Leaves g (made g two t row) h) (sym (λ i. record { shelf = er i; array = ea i; log = n; list = l' }))
-              (made-leaves g two t row (withMode r 2) k a n l' (P .range) ht (two-record len P) (two-log P) (rowed-same g two t a ht (held P)) Z bytes));
+              (made-leaves g two t row (withMode r 2) k a n l' (P .range) ht (two-record len P) (two-log P) (rowed-same g two t a ht (blocks-here r a n l P 2 _)) Z bytes));
           refused = λ z. absurd (z refl);
         },
         told t low,
@@ -158,7 +143,7 @@ module _ (r : Shelf) (a n l : List ℕ) where
       let st = stateOf (lent r a n l) in
       let t : ℕ = resyncStripe g (stateOf (lent r a n l)) in
       let es : List Entry = dropStripe (g .d) (resyncStripe g (stateOf (lent r a n l))) (entries (words l) g) in
-      let Z = made-says g (inMode st 2) t (st .disk t) (P .range) (r .listed) (length es) l (bytesOf (encode g es)) (two-says P)
+      let Z = made-says g (inMode st 2) t (st .disk t) (P .range) (r .listed) (length es) l (bytesOf (encode g es)) (list-here r a n l P 2 _)
       (refl, (words-bytes (encode g es), refl)) in
       let Z' : HoldsList g (resynced g (stateOf (lent r a n l))) (length es) (bytesOf (encode g es)) =
       subst (λ (s : State). HoldsList g s (length es) (bytesOf (encode g es))) (made-is t refl ht) Z in

@@ -13,15 +13,15 @@ use Rattle.shelf.specs.State.{State}
 use Rattle.shelf.specs.Calls.{nextLeft}
 use Rattle.shelf.specs.Words.{words}
 use Rattle.shelf.specs.HashList.{valid}
-use Rattle.shelf.specs.Lent.{Lent, lent, stateOf, arrayBlock, listLength, roleBlock, Leaves}
+use Rattle.shelf.specs.Lent.{Lent, lent, stateOf, listLength, Leaves}
 use Rattle.shelf.specs.Reading.{ListReady}
 use Rattle.shelf.specs.Showing.{Shows}
 use Rattle.shelf.specs.declared.record.Geometry.{Geometry}
 use Rattle.shelf.specs.declared.record.Shelf.{Shelf}
 use Rattle.shelf.proofs.general.TestLaws.{cases, choose-true, choose-false}
 use Rattle.shelf.proofs.numbers.InputLaws.{Passed, fine-record}
-use Rattle.shelf.proofs.lent.LayoutLaws.{log-is, role-data, role-p, role-q, by-role}
-use Rattle.shelf.proofs.lent.LeavesLaws.{same-flags, marks-here}
+use Rattle.shelf.proofs.lent.LayoutLaws.{log-is}
+use Rattle.shelf.proofs.lent.LeavesLaws.{same-flags, marks-here, blocks-here, list-here}
 use Rattle.shelf.proofs.calls.MadeLaws.{leaves-by}
 
 -- where no record is in use when nothing is listed, the next free record is settled
@@ -36,16 +36,12 @@ module _ (r : Shelf) (a n l : List ℕ) (P : Passed r (length a) (length n) l) (
   pub state-shows : Shows (r .geometry) (stateOf (lent r a n l)) (lent r a n l)
   unfolding stateOf
   state-shows =
-      let s = stateOf (lent r a n l) in
       let F = fine-record r (P .fine) in
       record {
         shelf = λ i. record { geometry = r .geometry; mode = r .mode; next = r .next; listed = sym (marks-here r a n l P) i; failed = same-flags (r .failed) len i };
-        array = record {
-          long = P .array;
-          blocks = λ x i hx hi. by-role (r .geometry) (λ k. roleBlock (r .geometry) s x k ≡ arrayBlock (r .geometry) a x k) (λ k hk. role-data (r .geometry) s x k hk) (role-p (r .geometry) s x) (role-q (r .geometry) s x) i hi;
-        };
+        array = blocks-here r a n l P _ _;
         log = record { long = P .log; blocks = λ k _. refl };
-        list = record { length-of = P .list; passes = P .valid; ori = λ x i _ _. refl; cur = λ x i _ _. refl };
+        list = list-here r a n l P _ _;
         room = ltb-false (r .geometry .l) (r .next) (F .room);
         idle = idle-next (r .listed) (r .next) (F .idle);
       }

@@ -1,4 +1,5 @@
--- Calls that store nothing but the record: what they leave is what is promised. Laws for start, fail and new log, and for every refusal.
+-- Array and list hold the state that they are read as; so calls that store nothing but the record leave what is promised. Laws for start, fail and new
+-- log, and for every refusal.
 -- Assumes nothing.
 use mathlib.Core.Bool.{Bool, true, false, _&&_}
 use mathlib.Core.List.{List}
@@ -18,6 +19,7 @@ use Rattle.shelf.specs.Calls.{modeWithout, work}
 use Rattle.shelf.specs.HashList.{valid}
 use Rattle.shelf.specs.Lent.{Lent, lent, flag, flagAt, stateOf, arrayBlock, roleBlock, flagsOf, numberOf, triesList, Leaves, Answered}
 use Rattle.shelf.specs.Records.{withMode, modeThen, withFailed, withRenewed}
+use Rattle.shelf.specs.Showing.{HoldsArray, HoldsList}
 use Rattle.shelf.specs.declared.record.Shelf.{Shelf}
 use Rattle.shelf.proofs.general.CountLaws.{setAt-here, setAt-other}
 use Rattle.shelf.proofs.numbers.InputLaws.{Passed, inputs-pass}
@@ -29,11 +31,27 @@ use Rattle.shelf.proofs.hashlist.ListMarks.{marks-listed}
 abbrev pub turned : State → ℕ → (ℕ → Bool) → State
 turned s m f = record { disk = s .disk; p = s .p; q = s .q; log = s .log; mode = m; failed = f }
 
+-- what is lent, read as a state, has the array's blocks
+pub reads-here : (r : Shelf) (a n l : List ℕ) (x i : ℕ) → i < r .geometry .d + 2 → roleBlock (r .geometry) (stateOf (lent r a n l)) x i ≡ arrayBlock (r .geometry) a x i
+unfolding stateOf
+reads-here r a n l x i hi =
+    let g = r .geometry in
+    let s = stateOf (lent r a n l) in
+    by-role g (λ k. roleBlock g s x k ≡ arrayBlock g a x k) (λ k hk. role-data g s x k hk) (role-p g s x) (role-q g s x) i hi
+
 module _ (r : Shelf) (a n l : List ℕ) (P : Passed r (length a) (length n) l) where
   -- the list has as many entries as the record says
   pub marks-here : marksIn (r .geometry) (listed (stateOf (lent r a n l) .log)) ≡ r .listed
   unfolding stateOf
   marks-here = marks-listed (r .geometry) l (r .next) (r .listed) (P .range) (P .valid)
+
+  -- array and list hold what the state holds that they are read as, in any mode and with any failed members
+  pub blocks-here : (m : ℕ) (f : ℕ → Bool) → HoldsArray (r .geometry) (turned (stateOf (lent r a n l)) m f) a
+  blocks-here m f = record { long = P .array; blocks = λ x i _ hi. reads-here r a n l x i hi }
+
+  pub list-here : (m : ℕ) (f : ℕ → Bool) → HoldsList (r .geometry) (turned (stateOf (lent r a n l)) m f) (r .listed) l
+  unfolding stateOf
+  list-here m f = record { length-of = P .list; passes = P .valid; ori = λ x i _ _. refl; cur = λ x i _ _. refl }
 
   -- the same buffers with a record of the same geometry, next and count
   pub leaves-here : ((i : ℕ) → getD l i 0 < 256) → (m : ℕ) (fs : List Bool) (f : ℕ → Bool) → fs ≡ flagsOf f
@@ -43,14 +61,9 @@ module _ (r : Shelf) (a n l : List ℕ) (P : Passed r (length a) (length n) l) w
   leaves-here bytes m fs f e =
       record {
         shelf = λ i. record { geometry = r .geometry; mode = m; next = r .next; listed = sym marks-here i; failed = e i };
-        array = array-is (r .geometry) (turned (stateOf (lent r a n l)) m f) a (P .range .s-least) (P .array)
-            (λ x i hx hi.
-            by-role (r .geometry) (λ j. roleBlock (r .geometry) (turned (stateOf (lent r a n l)) m f) x j ≡ arrayBlock (r .geometry) a x j)
-            (λ j hj. role-data (r .geometry) (turned (stateOf (lent r a n l)) m f) x j hj) (role-p (r .geometry) (turned (stateOf (lent r a n l)) m f) x)
-            (role-q (r .geometry) (turned (stateOf (lent r a n l)) m f) x) i hi);
+        array = array-is (r .geometry) (turned (stateOf (lent r a n l)) m f) a (P .range .s-least) (P .array) (λ x i _ hi. reads-here r a n l x i hi);
         log = log-is (r .geometry) (turned (stateOf (lent r a n l)) m f) n (P .log) (λ k _. refl);
-        list = list-laid (r .geometry) (turned (stateOf (lent r a n l)) m f) (r .listed) l (P .range)
-            (record { length-of = P .list; passes = P .valid; ori = λ x i _ _. refl; cur = λ x i _ _. refl }) bytes;
+        list = list-laid (r .geometry) (turned (stateOf (lent r a n l)) m f) (r .listed) l (P .range) (list-here m f) bytes;
       }
 
 -- flags by their members
