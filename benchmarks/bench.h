@@ -19,7 +19,7 @@ enum { MOST_DATA = 16, MOST_VARIANTS = 13, MOST_ROUNDS = 200 };
    layouts needs, those of a shelf with blocks listed, and the test of the list alone. */
 enum work {
     PARITY, ONE_BLOCK, TWO_BLOCKS, ALL_STRIPES,
-    WRITE, READ, READ_ONE, READ_TWO, REBUILD_ONE, REBUILD_TWO, REBUILD_PARITY, FULL_RESYNC,
+    WRITE, READ, FETCH, FETCH_ONE, FETCH_TWO, REBUILD_ONE, REBUILD_TWO, REBUILD_PARITY, FULL_RESYNC,
     REBUILD_WITH_P, REBUILD_WITH_Q,
     LOG_AGAIN, LOG_NEW, RESYNC,
     TEST,
@@ -33,7 +33,7 @@ struct job {
     uint32_t x, y;    /* the members that are made or have failed; the same one twice counts once */
     size_t len;       /* (d + 2) * s * b */
     uint8_t *bytes;   /* a stripe (data, P, Q), or an array kept by member */
-    uint8_t *copy;    /* where memcpy and a read put the data */
+    uint8_t *copy;    /* where memcpy and both reads put the data */
 
     /* The layout, what the bytes must be after each call in either layout, and the one that they are in
        now, which the jobs of the same bytes share; null where there is only the fixed one. */
@@ -90,7 +90,7 @@ double run_batch(const struct variant *v, const struct job *job, uint64_t calls)
    last; those of the test of the list are by d, then by slots, then by that number; those of a small array
    by number in laid_works, then by measures. They are made, and each variant's results compared with what
    they must be. */
-enum { MEASURES = 4, COUNTS = 3, TEST_WIDTHS = 2, TEST_SLOTS = 3, LAID_WORKS = 8, LAID_COUNT = 1 };
+enum { MEASURES = 4, COUNTS = 3, TEST_WIDTHS = 2, TEST_SLOTS = 3, LAID_WORKS = 9, LAID_COUNT = 1 };
 enum {
     LIST_LINES = LIST_WORKS * MEASURES,
     TEST_LINES = LIST_LINES + (TEST - LIST_WORKS) * MEASURES * COUNTS,
@@ -119,8 +119,9 @@ void start(struct job *job);
 void set_list(const struct job *job);
 struct shelf_record log_blocks(const struct job *job, size_t address, size_t count);
 bool ours_passes(const struct job *job);
-void read_block(const struct job *job, struct shelf_record record, size_t address, uint8_t *to);
-call_of_job ours_write, ours_read, ours_read_lost, ours_rebuild, ours_full_resync, ours_log, ours_resync, ours_test;
+void fetch_block(const struct job *job, struct shelf_record record, size_t address, uint8_t *to);
+call_of_job ours_write, ours_read, ours_fetch, ours_fetch_lost, ours_rebuild, ours_full_resync, ours_log, ours_resync,
+    ours_test;
 
 /* The layouts by C (layouts.c): a job in another one, the member that has a role in a stripe, where a
    member's block stands in an array; and the bytes put in the job's layout, as they must be. turn_array

@@ -63,7 +63,7 @@ static void prepare_one(const struct job *job)
 
 /* Two data blocks from the others, P and Q. With g for 2 to the power y - x, a for g / (g + 1) and
    c for 2 to the power -x over g + 1, and P', Q' the sums of P, Q and the others' parts of them:
-   block x is a * P' + c * Q', and block y is P' plus block x. A read makes x alone. */
+   block x is a * P' + c * Q', and block y is P' plus block x. A fetch makes x alone. */
 static void prepare_two(const struct job *job)
 {
     uint32_t d = job->d, k = 0;
@@ -78,16 +78,16 @@ static void prepare_two(const struct job *job)
         coefficients[k] = to_x;
         coefficients[d + k++] = to_x ^ in_p;
     }
-    target_count = job->work == READ_TWO ? 1 : 2;
+    target_count = job->work == FETCH_TWO ? 1 : 2;
 }
 
 /* Sets the pointers and builds the tables for a job. */
 void isal_prepare(const struct job *job)
 {
-    bool reads = job->work == READ_ONE || job->work == READ_TWO;
+    bool fetches = job->work == FETCH_ONE || job->work == FETCH_TWO;
     for (uint32_t i = 0; i < job->d + 2; i++)
         at.members[i] = job->bytes + (size_t)i * job->s * job->b;
-    at.targets[0] = reads ? job->copy : at.members[job->x];
+    at.targets[0] = fetches ? job->copy : at.members[job->x];
     at.targets[1] = at.members[job->y];
     if (job->x == job->y)
         prepare_one(job);

@@ -16,7 +16,7 @@ static const uint32_t test_widths[TEST_WIDTHS] = {5, 16}, test_slots[TEST_SLOTS]
 const uint32_t test_counts[COUNTS] = {64, 512, PLACES};
 
 /* The works that the layouts are compared in, and at last those that are only there in the fixed one. */
-const enum work laid_works[LAID_WORKS] = {FULL_RESYNC, WRITE, READ, REBUILD_ONE, REBUILD_TWO,
+const enum work laid_works[LAID_WORKS] = {FULL_RESYNC, WRITE, READ, FETCH, REBUILD_ONE, REBUILD_TWO,
                                           REBUILD_PARITY, REBUILD_WITH_P, REBUILD_WITH_Q};
 
 struct line lines[LINES];
@@ -39,13 +39,13 @@ static void name_members(struct job *job)
     enum work w = job->work;
     job->x = job->d;
     job->y = job->d + 1;
-    if (w == ONE_BLOCK || w == READ_ONE || w == REBUILD_ONE)
+    if (w == ONE_BLOCK || w == FETCH_ONE || w == REBUILD_ONE)
         job->x = job->y = 2;
     if (w == REBUILD_WITH_P || w == REBUILD_WITH_Q) {
         job->x = 2;
         job->y = w == REBUILD_WITH_P ? job->d : job->d + 1;
     }
-    if (w == TWO_BLOCKS || w == READ_TWO || w == REBUILD_TWO) {
+    if (w == TWO_BLOCKS || w == FETCH_TWO || w == REBUILD_TWO) {
         job->x = job->d == 5 ? 1 : 3;
         job->y = job->d == 5 ? 3 : 11;
     }
@@ -130,7 +130,7 @@ static struct line with_work(const struct line *shelf, enum work work)
     struct job *job = &line.job;
     job->work = work;
     name_members(job);
-    if (work == READ_ONE || work == READ_TWO || rebuilds(work))
+    if (work == FETCH_ONE || work == FETCH_TWO || rebuilds(work))
         job->record.failed[job->x] = job->record.failed[job->y] = true;
     return line;
 }
@@ -282,7 +282,7 @@ static void check_made(const struct job *job, const struct variant *v)
 static void check_read(const struct job *job, const struct variant *v)
 {
     size_t member = (size_t)job->s * job->b;
-    bool lost = job->work != READ;
+    bool lost = job->work == FETCH_ONE || job->work == FETCH_TWO;
     const uint8_t *want = lost ? job->sound[job->layout] + job->x * member : job->data;
     size_t len = lost ? member : job->d * member;
     spoil(job->copy, want, len);
@@ -293,7 +293,7 @@ static void check_read(const struct job *job, const struct variant *v)
     memcpy(job->bytes, job->sound[job->layout], job->len);
 }
 
-/* Holds a logged block to the data: as it is read after the call while its disk is spoilt and failed. */
+/* Holds a logged block to the data: as it is fetched after the call while its disk is spoilt and failed. */
 static void check_logged(const struct job *job, const struct variant *v)
 {
     uint8_t *block = block_at(job, job->address);
@@ -306,7 +306,7 @@ static void check_logged(const struct job *job, const struct variant *v)
     spoil(block, want, job->b);
     spoil(job->copy, want, job->b);
     after.failed[(block - job->bytes) / offset_of(job, 1, 0)] = true;
-    read_block(job, after, job->address, job->copy);
+    fetch_block(job, after, job->address, job->copy);
     hold(job, v->name, job->copy, want, job->b);
     memcpy(block, want, job->b);
 }
@@ -316,7 +316,7 @@ static void check_logged(const struct job *job, const struct variant *v)
 void check(const struct line *line)
 {
     enum work work = line->job.work;
-    bool reads = work >= READ && work <= READ_TWO;
+    bool reads = work >= READ && work <= FETCH_TWO;
     if (work == TEST) {
         check_tests(&line->job);
         return;

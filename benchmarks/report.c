@@ -12,8 +12,9 @@ static const char *const titles[WORKS] = {
     [ALL_STRIPES] = "parity of an array",
     [WRITE] = "`shelf_write` of all blocks, mode 0",
     [READ] = "`shelf_read` of all blocks, disks sound",
-    [READ_ONE] = "`shelf_read` of a lost block, one disk out",
-    [READ_TWO] = "`shelf_read` of a lost block, two disks out",
+    [FETCH] = "`shelf_fetch` of all blocks, disks sound",
+    [FETCH_ONE] = "`shelf_fetch` of a lost block, one disk out",
+    [FETCH_TWO] = "`shelf_fetch` of a lost block, two disks out",
     [REBUILD_ONE] = "`shelf_rebuild` of one data disk",
     [REBUILD_TWO] = "`shelf_rebuild` of two data disks",
     [REBUILD_PARITY] = "`shelf_rebuild` of P and Q",
@@ -134,8 +135,9 @@ static void print_stripe_terms(void)
 static void print_shelf_terms(void)
 {
     printf("\nThe shelf's calls over an array of %zu MiB of data blocks, nothing listed. The peers do the same work"
-           " on the same array, stripe by stripe: for a write, memcpy of each block and then pq_gen; for a read, memcpy"
-           " by block; for the rest, what is named. A read of lost blocks is a call for each block of one disk.\n\n",
+           " on the same array, stripe by stripe: for a write, memcpy of each block and then pq_gen; for a read, plain"
+           " (`shelf_read`) or recovering (`shelf_fetch`), memcpy by block; for the rest, what is named. A fetch of lost"
+           " blocks is a call for each block of one disk.\n\n",
            DATA_BYTES >> 20);
 }
 

@@ -50,10 +50,10 @@ struct shelf_record log_blocks(const struct job *job, size_t address, size_t cou
     return a.shelf;
 }
 
-/* Reads one block. */
-void read_block(const struct job *job, struct shelf_record record, size_t address, uint8_t *to)
+/* Reads one block, which may be on a failed member. */
+void fetch_block(const struct job *job, struct shelf_record record, size_t address, uint8_t *to)
 {
-    expect(job, shelf_read(record, address, 1, to, job->b, BUFFERS(job)).code, SHELF_OK);
+    expect(job, shelf_fetch(record, address, 1, to, job->b, BUFFERS(job)).code, SHELF_OK);
 }
 
 /* Writes all blocks in one call. */
@@ -63,18 +63,21 @@ void ours_write(const struct job *job)
     expect(job, shelf_write(job->record, 0, count, job->data, count * job->b, BUFFERS(job)).code, SHELF_OK);
 }
 
-/* Reads all blocks in one call. */
-void ours_read(const struct job *job)
-{
-    size_t count = (size_t)job->d * job->s;
-    expect(job, shelf_read(job->record, 0, count, job->copy, count * job->b, BUFFERS(job)).code, SHELF_OK);
-}
+/* Reads all blocks in one call of either read. */
+#define READS_ALL(name, call)                                                                              \
+    void name(const struct job *job)                                                                       \
+    {                                                                                                      \
+        size_t count = (size_t)job->d * job->s;                                                            \
+        expect(job, call(job->record, 0, count, job->copy, count * job->b, BUFFERS(job)).code, SHELF_OK);  \
+    }
+READS_ALL(ours_read, shelf_read)
+READS_ALL(ours_fetch, shelf_fetch)
 
 /* Reads the blocks of disk x, a call a block. */
-void ours_read_lost(const struct job *job)
+void ours_fetch_lost(const struct job *job)
 {
     for (size_t t = 0; t < job->s; t++)
-        read_block(job, job->record, t * job->d + job->x, job->copy + t * job->b);
+        fetch_block(job, job->record, t * job->d + job->x, job->copy + t * job->b);
 }
 
 /* Fills the failed members in one call. */

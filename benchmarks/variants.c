@@ -59,22 +59,24 @@ CALLS_OF(mask)
 /* What a set of ISA-L's functions or of C rows does. */
 #define SUMS_OF(set)                                                                               \
     {[PARITY] = set##_pq, [ONE_BLOCK] = set##_xor, [ALL_STRIPES] = set##_pq_all,                   \
-     [WRITE] = set##_write, [READ_ONE] = set##_xor_all, [REBUILD_ONE] = set##_xor_all,             \
+     [WRITE] = set##_write, [FETCH_ONE] = set##_xor_all, [REBUILD_ONE] = set##_xor_all,            \
      [REBUILD_PARITY] = set##_pq_all, [FULL_RESYNC] = set##_pq_all}
 #define PRODUCTS_OF(set)                                                                           \
     {[PARITY] = set##_encode, [ONE_BLOCK] = set##_encode, [TWO_BLOCKS] = set##_encode,             \
-     [READ_TWO] = set##_encode_all, [REBUILD_TWO] = set##_encode_all}
+     [FETCH_TWO] = set##_encode_all, [REBUILD_TWO] = set##_encode_all}
 #define ROWS_OF(set)                                                                               \
     {[PARITY] = set##_parity, [ONE_BLOCK] = set##_one, [TWO_BLOCKS] = set##_two, [ALL_STRIPES] = set##_all}
 #define LAYOUTS_IN_C                                                                               \
-    {[WRITE] = c_write, [READ] = c_read, [REBUILD_ONE] = c_rebuild, [FULL_RESYNC] = c_full_resync}
+    {[WRITE] = c_write, [READ] = c_read, [FETCH] = c_read, [REBUILD_ONE] = c_rebuild,              \
+     [FULL_RESYNC] = c_full_resync}
 
 const struct variant variants[] = {
     {ours, false, SHELF_FIXED,
      {[PARITY] = ours_parity, [ONE_BLOCK] = ours_recover, [TWO_BLOCKS] = ours_recover, [ALL_STRIPES] = ours_all,
-      [WRITE] = ours_write, [READ] = ours_read, [READ_ONE] = ours_read_lost, [READ_TWO] = ours_read_lost,
-      [REBUILD_ONE] = ours_rebuild, [REBUILD_TWO] = ours_rebuild, [REBUILD_PARITY] = ours_rebuild,
-      [FULL_RESYNC] = ours_full_resync, [REBUILD_WITH_P] = ours_rebuild, [REBUILD_WITH_Q] = ours_rebuild,
+      [WRITE] = ours_write, [READ] = ours_read, [FETCH] = ours_fetch, [FETCH_ONE] = ours_fetch_lost,
+      [FETCH_TWO] = ours_fetch_lost, [REBUILD_ONE] = ours_rebuild, [REBUILD_TWO] = ours_rebuild,
+      [REBUILD_PARITY] = ours_rebuild, [FULL_RESYNC] = ours_full_resync, [REBUILD_WITH_P] = ours_rebuild,
+      [REBUILD_WITH_Q] = ours_rebuild,
       [LOG_AGAIN] = ours_log, [LOG_NEW] = ours_log, [RESYNC] = ours_resync, [TEST] = ours_test}},
 #ifdef WITH_ISAL
     {"ISA-L pq_gen, xor_gen", true, SHELF_FIXED, SUMS_OF(isal)},
@@ -86,11 +88,12 @@ const struct variant variants[] = {
     {"C rows by mask", false, SHELF_FIXED, ROWS_OF(mask)},
     {"memcpy", false, SHELF_FIXED,
      {[PARITY] = copy_data, [ONE_BLOCK] = copy_data, [TWO_BLOCKS] = copy_data, [ALL_STRIPES] = copy_data,
-      [READ] = copy_blocks}},
+      [READ] = copy_blocks, [FETCH] = copy_blocks}},
     {"C in the fixed layout", false, SHELF_FIXED, LAYOUTS_IN_C},
     {"this library in the rotating layout", false, SHELF_ROTATING,
-     {[WRITE] = ours_write, [READ] = ours_read, [REBUILD_ONE] = ours_rebuild, [REBUILD_TWO] = ours_rebuild,
-      [FULL_RESYNC] = ours_full_resync, [LOG_AGAIN] = ours_log, [LOG_NEW] = ours_log, [RESYNC] = ours_resync}},
+     {[WRITE] = ours_write, [READ] = ours_read, [FETCH] = ours_fetch, [REBUILD_ONE] = ours_rebuild,
+      [REBUILD_TWO] = ours_rebuild, [FULL_RESYNC] = ours_full_resync, [LOG_AGAIN] = ours_log, [LOG_NEW] = ours_log,
+      [RESYNC] = ours_resync}},
     {"C in the rotating layout", false, SHELF_ROTATING, LAYOUTS_IN_C},
     {"C test of the list", false, SHELF_FIXED, {[TEST] = c_test}},
     {"list test", false, SHELF_FIXED, {[LOG_AGAIN] = ours_test, [LOG_NEW] = ours_test, [RESYNC] = ours_test}},

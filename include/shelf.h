@@ -27,14 +27,16 @@
  * The parity of a stripe, P and Q, is that of stripe.h, where a stripe's blocks are in the order data, P, Q whatever
  * the layout. A write makes it at once, or puts it off: then it appends blocks to the log, lists them, stores the new
  * blocks on their disks and leaves P and Q as they were. A stripe with a listed block is stale; a resync makes its
- * parity later. Two members may have failed at a time, the log included, and blocks of failed members are read all the
- * same (degraded read), save in one state that is named below.
+ * parity later. Two members may have failed at a time, the log included. There are two reads: shelf_read, the plain
+ * one, gives blocks on sound members alone and never enters recovery; shelf_fetch, the recovering one, gives blocks of
+ * failed members too (degraded read), save in one state that is named below.
  *
  * On a shelf that these calls alone have changed since shelf_format, each call given the record that the one before
- * handed back, and the bytes of failed members left aside, every block that a read hands over and every data block
- * that a rebuild puts on a failed member is the one last written at its address, or zeros if none was. A member is
- * trusted until shelf_fail has noted its failure, so a driver reports a failure before it makes another call. Nothing
- * is promised of record and buffers if a call was cut short.
+ * handed back, and the bytes of failed members left aside, every block that a fetch hands over and every data block
+ * that a rebuild puts on a failed member is the one last written at its address, or zeros if none was. A plain read
+ * that answers 0 hands over what a fetch of the same blocks would. A member is trusted until shelf_fail has noted its
+ * failure, so a driver reports a failure before it makes another call. Nothing is promised of record and buffers if a
+ * call was cut short.
  *
  *
  * Buffers
@@ -92,7 +94,7 @@
  *                         P and Q of the stripes in which one                            whose P and Q it makes
  *                         of them is on a failed member
  *     shelf_full_resync   P and Q of every stripe                nothing                 all of it
- *     shelf_read          nothing: it stores into the caller's data
+ *     shelf_read, shelf_fetch                                    nothing: they store into the caller's data
  *     shelf_start, shelf_fail, shelf_new_log                     nothing
  *
  * Where it says all of it, every byte of array and log becomes 0 and every word of the list none. Where entries of the
@@ -101,20 +103,21 @@
  * buffer into which a call never stores is const. So what an accepted call is given determines the record that it
  * hands back and every byte of array, log and list.
  *
- * Threads: calls that store into none of the shelf's buffers (shelf_read with data of its own, shelf_start,
- * shelf_fail, shelf_new_log) may run at the same time over the same buffers, in any number. Each hands back a record
- * of its own, made from the one that it was given, and the caller decides which one counts: two shelf_fail that are
- * given the same record hand back two records with a new flag each, and none with both. A call that takes a buffer as
- * not const runs while no other call is given that buffer. Calls over other buffers are independent.
+ * Threads: calls that store into none of the shelf's buffers (shelf_read and shelf_fetch with data of their own,
+ * shelf_start, shelf_fail, shelf_new_log) may run at the same time over the same buffers, in any number. Each hands
+ * back a record of its own, made from the one that it was given, and the caller decides which one counts: two
+ * shelf_fail that are given the same record hand back two records with a new flag each, and none with both. A call that
+ * takes a buffer as not const runs while no other call is given that buffer. Calls over other buffers are independent.
  *
  * Failed members: no number, no record and no byte that a call stores depends on the bytes of a failed member, so they
- * may be anything, and may change between calls. Only shelf_rebuild stores into a failed array member, and nothing
- * stores into a failed log, save that shelf_format looks at no flag and stores into all. So a new disk takes the place
- * of the failed one in the array before shelf_rebuild; the bytes of a new log may be anything.
+ * may be anything, and may change between calls. shelf_read depends on no byte of the log, failed or not. Only
+ * shelf_rebuild stores into a failed array member, and nothing stores into a failed log, save that shelf_format looks
+ * at no flag and stores into all. So a new disk takes the place of the failed one in the array before shelf_rebuild;
+ * the bytes of a new log may be anything.
  *
  * Record and list belong together: next and listed tell of this list and no other. A driver that keeps them on a disk
  * saves both or neither, as one call left them, with the array and the log of the same moment. An older list with a
- * newer record can pass every test, and a read then gives an older block. The flags of a record are bytes of 0 or 1: a
+ * newer record can pass every test, and a fetch then gives an older block. The flags of a record are bytes of 0 or 1: a
  * record that was read from a disk is tested for this by the driver, since a call cannot.
  *
  * A record of an earlier version has no layout: its shelf has the fixed one, and a driver that kept the record as
@@ -122,14 +125,16 @@
  * formatted. No call can tell that a record has the other one: reads then give other blocks, and parity is stored over
  * data.
  *
+ * The shelf_read of an earlier version, which recovered lost blocks, is shelf_fetch.
+ *
  * A shelf of an earlier version may have a list in another arrangement, with anything in its unused places. If no
  * block is listed, as in mode 0, it is carried over by filling its list with none, every byte 255, before the first
  * call; without that, calls may answer SHELF_BAD_LIST. If blocks are listed, the earlier version leads it to mode 0
  * first, by shelf_resync. Where all array members are sound, shelf_full_resync will do in either case: it does not
  * look at the list, and leaves none in every word.
  *
- * Stack: shelf_write, shelf_read and shelf_rebuild need up to 8 KiB of stack, the others less than 2 KiB (as compiled
- * here for x86-64), and there is no recursion. In shelf_read and shelf_rebuild most of it goes to a working block of
+ * Stack: shelf_write, shelf_fetch and shelf_rebuild need up to 8 KiB of stack, the others less than 2 KiB (as compiled
+ * here for x86-64), and there is no recursion. In shelf_fetch and shelf_rebuild most of it goes to a working block of
  * 4,096 bytes and a table of 256 products. The list is altered where it stands: of its entries no call has more on the
  * stack than those of one stripe.
  *
@@ -146,7 +151,8 @@
  *     shelf_start         goes from mode 0 to mode 1: parity is put off          1  2  3  7  8  9
  *     shelf_fail          notes that a member has failed                         1  2  3  6 10 11
  *     shelf_write         writes blocks                                          1  2  3  4  5  8
- *     shelf_read          reads blocks, from failed members too                  1  2  3  4  5 14
+ *     shelf_read          the plain read: blocks on sound members alone          1  2  3  4  5 16
+ *     shelf_fetch         the recovering read: blocks on failed members too      1  2  3  4  5 14
  *     shelf_resync        makes the parity of the lowest stale stripe            1  2  3  7  8
  *     shelf_rebuild       fills all failed array members                         1  2  3 12 14
  *     shelf_new_log       takes a new log into use                               1  2  3 12 13
@@ -155,14 +161,15 @@
  * Time: every call but shelf_format and shelf_full_resync tests the whole list, by one pass over the E places and one
  * walk over the slots and their chains. It looks nothing up, so the time grows with E, H and the count of listed
  * blocks, however long the chains are. To look a block up, a call goes along its slot's chain, which many slots keep
- * short: where blocks are listed, shelf_write does so for the blocks of each stripe that it writes, shelf_read and
- * shelf_rebuild for the blocks of stripes in which they give one of a failed member. shelf_resync looks nothing up:
- * the lowest stale stripe is that of place 0. To alter the list, a call moves entries to their new places and makes
- * the chains anew: shelf_write once for each stripe that is logged or whose entries are dropped, shelf_resync and
- * shelf_rebuild once. Nothing is sorted, and the time grows with H and the count of listed blocks, not with E. To work
- * a block back by parity, d others are read; if another data block of the stripe is missing too, those that are data
- * are read twice. shelf_rebuild goes through the stripes once, whatever the failed members have in them; if the log
- * has failed and blocks are listed, once more before that, for number 14.
+ * short: where blocks are listed, shelf_write does so for the blocks of each stripe that it writes, shelf_fetch and
+ * shelf_rebuild for the blocks of stripes in which they give one of a failed member. shelf_read and shelf_resync look
+ * nothing up: the lowest stale stripe is that of place 0. Where no array member has failed a fetch does what a read
+ * does. To alter the list, a call moves entries to their new places and makes the chains anew: shelf_write once for
+ * each stripe that is logged or whose entries are dropped, shelf_resync and shelf_rebuild once. Nothing is sorted, and
+ * the time grows with H and the count of listed blocks, not with E. To work a block back by parity, d others are read;
+ * if another data block of the stripe is missing too, those that are data are read twice. shelf_rebuild goes through
+ * the stripes once, whatever the failed members have in them; if the log has failed and blocks are listed, once more
+ * before that, for number 14.
  *
  *
  * States
@@ -180,8 +187,8 @@
  * 2 or, if no block is left listed, 0 by shelf_resync. Mode 2 becomes 0 as soon as no block is left listed, by
  * shelf_resync, shelf_write or shelf_rebuild. Any mode becomes 0 by shelf_format and by shelf_full_resync. All else
  * leaves the mode as it is: a write or a rebuild in mode 0 or 1, or one in mode 2 that leaves blocks listed, a failure
- * of an array member, a failure of the log in mode 0 or 2, a read, a new log. So a rebuild never ends mode 1, whether
- * blocks are listed before it or after it or not: writes go on being logged, where log and list have room.
+ * of an array member, a failure of the log in mode 0 or 2, either read, a new log. So a rebuild never ends mode 1,
+ * whether blocks are listed before it or after it or not: writes go on being logged, where log and list have room.
  *
  * What a rebuild makes and drops goes by stripe: it makes P and Q of a stripe and drops its listed blocks if P or Q of
  * that stripe is on a failed member. In the fixed layout these are all stripes if member d or d + 1 has failed, and
@@ -205,9 +212,11 @@
  *     some        failed   yes        2           7       8       8       0, 14      13          8
  *
  * In the last row shelf_rebuild answers 14 if the failed member has a data block in a stale stripe, and 0 if it has P
- * or Q in each of them. In that row shelf_read answers 14 if it asks for a block on the failed member in a stale
- * stripe; in all other cases it answers 0. shelf_fail answers 0 for a sound member while fewer than two have failed,
- * 11 for a sound member while two have failed, and 10 for a member that has failed.
+ * or Q in each of them. In that row shelf_fetch answers 14 if it asks for a block on the failed member in a stale
+ * stripe; in all other cases it answers 0. In the rows with "some" shelf_read answers 16 if it asks for a data block on
+ * a failed member, whether the log is sound or not and the stripe is stale or not; else it answers 0. shelf_fail
+ * answers 0 for a sound member while fewer than two have failed, 11 for a sound member while two have failed, and 10
+ * for a member that has failed.
  *
  * The way back to a sound shelf, each call of which is accepted; after it the mode is 0, or as said:
  *
@@ -227,14 +236,14 @@
  * with none stale, one does. shelf_rebuild fills all failed array members in one call. A sound shelf in mode 0 takes
  * shelf_start again.
  *
- * The log failed, and an array member that has a data block in a stale stripe: there is no way back. shelf_rebuild
- * gets 14, shelf_write 8, and so do shelf_resync and shelf_full_resync; shelf_new_log gets 13, shelf_start 7. No call
- * changes the shelf any more, save shelf_format. What can be read are all blocks on sound members, and those of the
- * failed one in stripes that are not stale. So when the log fails while a stripe is stale, resync at once; and when an
- * array member fails while a stripe is stale, rebuild at once.
+ * The log failed, and an array member that has a data block in a stale stripe: there is no way back. shelf_rebuild gets
+ * 14, shelf_write 8, and so do shelf_resync and shelf_full_resync; shelf_new_log gets 13, shelf_start 7. No call
+ * changes the shelf any more, save shelf_format. What can be read are all blocks on sound members, and, by shelf_fetch,
+ * those of the failed one in stripes that are not stale. So when the log fails while a stripe is stale, resync at once;
+ * and when an array member fails while a stripe is stale, rebuild at once.
  *
- * SHELF_WITHHELD (14) refuses a read as a whole and names no block. To read those that are not withheld, ask again
- * block by block.
+ * SHELF_WITHHELD (14) and SHELF_BLOCK_FAILED (16) refuse a call as a whole and name no block. Where shelf_read answers
+ * 16, shelf_fetch with the same arguments answers 0 or 14. To read the blocks that are not withheld, fetch one by one.
  *
  * A third failure cannot be noted: shelf_fail answers 11, and the calls go on trusting the member. Make no other call
  * then than one that clears a flag and does not look at that member, and report it by the next call: shelf_new_log,
@@ -300,7 +309,7 @@ extern "C" {
 #define SHELF_ACCELERATING 1 /* blocks may be listed; the log is sound */
 #define SHELF_TRANSITIONAL 2 /* blocks are listed */
 
-/* The numbers answered, in the order in which they are tried; SHELF_OK where no other applies. */
+/* The numbers answered, in the order in which they are tried; SHELF_OK where no other applies. None is 15. */
 #define SHELF_BAD_RECORD 1      /* a measure is outside its range, the layout is neither, or the rest of the record is
                                  * impossible: see below */
 #define SHELF_BAD_LENGTH 2      /* array_len, log_len or list_len is not what the measures ask for */
@@ -315,8 +324,9 @@ extern "C" {
 #define SHELF_TWO_FAILED 11     /* two members have already failed */
 #define SHELF_NOT_FAILED 12     /* no array member has failed (shelf_rebuild); the log is sound (shelf_new_log) */
 #define SHELF_LISTED 13         /* blocks are listed */
-#define SHELF_WITHHELD 14       /* the log has failed, and a block that is asked for (shelf_read), or any data block
+#define SHELF_WITHHELD 14       /* the log has failed, and a block that is asked for (shelf_fetch), or any data block
                                  * (shelf_rebuild), is on a failed member in a stale stripe */
+#define SHELF_BLOCK_FAILED 16   /* a block that is asked for (shelf_read) is on a failed member */
 #define SHELF_OK 0
 
 /* The record gets SHELF_BAD_RECORD, beside measures outside their ranges and a layout above SHELF_ROTATING, where
@@ -383,7 +393,7 @@ struct shelf_resynced {
  *   log, log_len       the log, not NULL, and how many bytes it has
  *   list, list_len     the list, not NULL, and how many bytes it has
  *
- * and shelf_write and shelf_read besides
+ * and shelf_write, shelf_read and shelf_fetch besides
  *
  *   address, count     the first block's address, and how many blocks: at least 1, up to the last address
  *   data, data_len     the caller's data, not NULL, and how many bytes it has: count * B; the blocks stand in it in the
@@ -434,16 +444,26 @@ struct shelf_answer shelf_write(struct shelf_record shelf, size_t address, size_
                                 size_t data_len, uint8_t *array, size_t array_len, uint8_t *log, size_t log_len,
                                 uint8_t *list, size_t list_len);
 
-/* Reads blocks.
+/* Reads blocks from sound members: the plain read.
  *
- * Answers 0, 1, 2, 3, 4, 5 or 14. With 0, data holds the blocks; else it has the bytes that it had. The record handed
- * back is the given one. A block on a sound member is taken from there. A block on a failed one is taken from its Cur,
- * else from its Ori, else it is worked back by parity from the originals of its stripe: a listed block's Ori, an
- * unlisted one's bytes if its member is sound, and P and Q as far as theirs are.
+ * Answers 0, 1, 2, 3, 4, 5 or 16. With 0, data holds the blocks, as they stand on their members; else it has the bytes
+ * that it had. The record handed back is the given one. No byte of the log is looked at, and the list for number 3
+ * only.
  */
 struct shelf_answer shelf_read(struct shelf_record shelf, size_t address, size_t count, uint8_t *data, size_t data_len,
                                const uint8_t *array, size_t array_len, const uint8_t *log, size_t log_len,
                                const uint8_t *list, size_t list_len);
+
+/* Reads blocks from sound and failed members: the recovering read.
+ *
+ * Answers 0, 1, 2, 3, 4, 5 or 14. With 0, data holds the blocks; else it has the bytes that it had. The record handed
+ * back is the given one. A block on a sound member is taken from there, as shelf_read takes it. A block on a failed
+ * one is taken from its Cur, else from its Ori, else it is worked back by parity from the originals of its stripe: a
+ * listed block's Ori, an unlisted one's bytes if its member is sound, and P and Q as far as theirs are.
+ */
+struct shelf_answer shelf_fetch(struct shelf_record shelf, size_t address, size_t count, uint8_t *data, size_t data_len,
+                                const uint8_t *array, size_t array_len, const uint8_t *log, size_t log_len,
+                                const uint8_t *list, size_t list_len);
 
 /* Makes P and Q of the lowest stale stripe and drops its listed blocks.
  *
@@ -457,7 +477,7 @@ struct shelf_resynced shelf_resync(struct shelf_record shelf, uint8_t *array, si
 
 /* Fills all failed array members.
  *
- * Answers 0, 1, 2, 3, 12 or 14. With 0, every data block on a failed member is what shelf_read would give, and the
+ * Answers 0, 1, 2, 3, 12 or 14. With 0, every data block on a failed member is what shelf_fetch would give, and the
  * record handed back has no flag of an array member set; the log's flag is as it was. In each stripe whose P or Q was
  * on a failed member both are made, and its listed blocks are dropped; listed counts those left. If no block is left
  * listed, next is 0, and mode 2 becomes 0; else next and the mode remain. Mode 1 remains in either case. Where there

@@ -19,7 +19,7 @@ typedef struct shelf_answer (*look_call)(struct shelf_record, const uint8_t *, s
 typedef struct shelf_answer (*fail_call)(struct shelf_record, size_t, const uint8_t *, size_t, const uint8_t *, size_t,
                                          const uint8_t *, size_t);
 
-/* Write looks at the caller's data and stores into the rest; read does the reverse. */
+/* Write looks at the caller's data and stores into the rest; both reads, the plain one and fetch, do the reverse. */
 typedef struct shelf_answer (*write_call)(struct shelf_record, size_t, size_t, const uint8_t *, size_t, uint8_t *,
                                           size_t, uint8_t *, size_t, uint8_t *, size_t);
 typedef struct shelf_answer (*read_call)(struct shelf_record, size_t, size_t, uint8_t *, size_t, const uint8_t *,
@@ -118,6 +118,12 @@ static int is(struct shelf_record shelf, size_t mode, size_t next, size_t listed
     return is_of(0, shelf, mode, next, listed, failed);
 }
 
+/* Whether two records are the same. */
+static int same(struct shelf_record a, struct shelf_record b)
+{
+    return memcmp(&a, &b, offsetof(struct shelf_record, failed) + SHELF_FLAGS) == 0;
+}
+
 /* Makes a call on that shelf that only looks at the buffers. */
 static struct shelf_answer on(look_call call, struct shelf_record shelf)
 {
@@ -148,12 +154,10 @@ static struct shelf_answer write_blocks(struct shelf_record shelf, size_t addres
                 sizeof list);
 }
 
-/* Reads blocks of that shelf. */
-static struct shelf_answer read_blocks(struct shelf_record shelf, size_t address, size_t count, uint8_t *data,
-                                       size_t data_len)
+/* Reads blocks of that shelf by either read. */
+static struct shelf_answer read_blocks(read_call call, struct shelf_record shelf, size_t address, size_t count,
+                                       uint8_t *data, size_t data_len)
 {
-    const read_call call = shelf_read;
-
     return call(shelf, address, count, data, data_len, array, sizeof array, log_bytes, sizeof log_bytes, list,
                 sizeof list);
 }
@@ -274,14 +278,39 @@ static int block_is(size_t member, size_t stripe, uint8_t byte)
     return all(array + (member * 2 + stripe) * 5, 5, byte);
 }
 
+/* On that shelf with block 1 logged as 7 and these members failed: fetch gives blocks 0 and 1 or is refused with this
+ * number, a plain read of them is refused, and one of block 2 is served. A refusal leaves the caller's data, and the
+ * record is handed back. */
+static int both_reads(struct shelf_record shelf, size_t number)
+{
+    uint8_t two[10], one[5] = {9, 9, 9, 9, 9};
+    struct shelf_answer answer;
+
+    memset(two, 9, sizeof two);
+    answer = read_blocks(shelf_read, shelf, 0, 2, two, sizeof two);
+    if (answer.code != SHELF_BLOCK_FAILED || !same(answer.shelf, shelf) || !all(two, sizeof two, 9))
+        return 71;
+    answer = read_blocks(shelf_fetch, shelf, 0, 2, two, sizeof two);
+    if (answer.code != number || !same(answer.shelf, shelf))
+        return 72;
+    if (number == SHELF_OK ? !all(two, 5, 0) || !all(two + 5, 5, 7) : !all(two, sizeof two, 9))
+        return 73;
+    if (read_blocks(shelf_read, shelf, 2, 1, one, sizeof one).code != SHELF_OK || !all(one, sizeof one, 0))
+        return 74;
+    if (read_blocks(shelf_read, shelf, 6, 1, one, sizeof one).code != SHELF_BAD_ADDRESS ||
+        read_blocks(shelf_read, shelf, 0, 2, one, sizeof one).code != SHELF_BAD_DATA)
+        return 75;
+    return 0;
+}
+
 /* On a started shelf: block 1 is logged as 7, disks 0 and 1 fail and are overwritten, read and rebuilt; then the log
  * and disk 0 fail, and block 0 is withheld. */
 static int blocks_logged(struct shelf_record shelf)
 {
     const uint8_t sevens[5] = {7, 7, 7, 7, 7};
     const uint8_t logged[24] = {255, 255, 255, 255, 0, 0, 0, 0, 1, 0, 0, 0, 0, 0, 0, 0, 1, 0, 0, 0, 255, 255, 255, 255};
-    uint8_t two[10] = {9, 9, 9, 9, 9, 9, 9, 9, 9, 9};
     struct shelf_answer answer = write_blocks(shelf, 1, 1, sevens, sizeof sevens);
+    int fault;
 
     if (answer.code != SHELF_OK || !is(answer.shelf, SHELF_ACCELERATING, 2, 1, 0) || !block_is(1, 0, 7))
         return 41;
@@ -291,8 +320,9 @@ static int blocks_logged(struct shelf_record shelf)
     shelf = answer.shelf;
     answer = member_of(shelf_fail, member_of(shelf_fail, shelf, 0).shelf, 1);
     memset(array, 55, 20);
-    if (read_blocks(answer.shelf, 0, 2, two, sizeof two).code != SHELF_OK || !all(two, 5, 0) || !all(two + 5, 5, 7))
-        return 43;
+    fault = both_reads(answer.shelf, SHELF_OK);
+    if (fault != 0)
+        return fault;
     if (write_blocks(answer.shelf, 1, 1, sevens, sizeof sevens).code != SHELF_ARRAY_FAILED)
         return 44;
     answer = mended(shelf_rebuild, answer.shelf);
@@ -300,12 +330,9 @@ static int blocks_logged(struct shelf_record shelf)
         !block_is(1, 0, 7) || !block_is(1, 1, 0))
         return 45;
     answer = member_of(shelf_fail, member_of(shelf_fail, shelf, 5).shelf, 0);
-    memset(two, 9, sizeof two);
-    if (read_blocks(answer.shelf, 0, 1, two, 5).code != SHELF_WITHHELD || !all(two, sizeof two, 9))
-        return 46;
     if (mended(shelf_rebuild, answer.shelf).code != SHELF_WITHHELD)
         return 47;
-    return 0;
+    return both_reads(answer.shelf, SHELF_WITHHELD);
 }
 
 /* On a shelf with block 1 logged: the numbers of requests, a resync that finds a stripe and ones that are refused, and
@@ -366,6 +393,32 @@ static int shelf_blocks(void)
     return blocks_resynced(logged);
 }
 
+/* On that shelf where parity rotates, with block 1 logged as 7 and block 4 as 6: member 2, which has blocks 1 and 5,
+ * fails and is overwritten. Fetch gives both, and a plain read neither, but block 4, on member 1. */
+static int rotating_reads(struct shelf_record shelf)
+{
+    const size_t lost[2] = {1, 5}, values[2] = {7, 0};
+    uint8_t kept[10], one[5];
+    size_t i;
+
+    memcpy(kept, array + 20, sizeof kept);
+    memset(array + 20, 55, sizeof kept);
+    shelf = member_of(shelf_fail, shelf, 2).shelf;
+    for (i = 0; i < 2; i++) {
+        memset(one, 9, sizeof one);
+        if (read_blocks(shelf_read, shelf, lost[i], 1, one, sizeof one).code != SHELF_BLOCK_FAILED ||
+            !all(one, sizeof one, 9))
+            return 76;
+        if (read_blocks(shelf_fetch, shelf, lost[i], 1, one, sizeof one).code != SHELF_OK ||
+            !all(one, sizeof one, (uint8_t)values[i]))
+            return 77;
+    }
+    if (read_blocks(shelf_read, shelf, 4, 1, one, sizeof one).code != SHELF_OK || !all(one, sizeof one, 6))
+        return 78;
+    memcpy(array + 20, kept, sizeof kept);
+    return 0;
+}
+
 /* On that shelf where parity rotates. Stripe 0 has P on member 4, Q on member 0 and its data on members 1 to 3; stripe
  * 1 has its data on members 0 to 2, P on 3 and Q on 4. Blocks 0 to 3 are written as 1, 2, 3 and 5; then block 1 is
  * logged as 7 and block 4 as 6. Member 4 fails and is rebuilt: it had parity of either stripe, and nothing remains
@@ -376,6 +429,7 @@ static int shelf_rotates(void)
     const uint8_t four[20] = {1, 1, 1, 1, 1, 2, 2, 2, 2, 2, 3, 3, 3, 3, 3, 5, 5, 5, 5, 5};
     const uint8_t sevens[5] = {7, 7, 7, 7, 7}, sixes[5] = {6, 6, 6, 6, 6};
     struct shelf_answer answer = write_blocks(format(fresh).shelf, 0, 4, four, sizeof four);
+    int fault;
 
     if (answer.code != SHELF_OK || !is_of(1, answer.shelf, SHELF_NORMAL, 0, 0, 0))
         return 61;
@@ -388,6 +442,9 @@ static int shelf_rotates(void)
     if (answer.code != SHELF_OK || !is_of(1, answer.shelf, SHELF_ACCELERATING, 4, 2, 0) || !block_is(2, 0, 7) ||
         !block_is(1, 1, 6))
         return 64;
+    fault = rotating_reads(answer.shelf);
+    if (fault != 0)
+        return fault;
     answer = member_of(shelf_fail, answer.shelf, 4);
     memset(array + 40, 55, 10);
     answer = mended(shelf_rebuild, answer.shelf);

@@ -1,13 +1,13 @@
 -- Laws of the room that the bench program has, of the data of a call, and of what comes of a request.
 -- Assumes nothing.
-use mathlib.Core.Bool.{Bool, true, false, cond, not}
+use mathlib.Core.Bool.{Bool, true, false, not}
 use mathlib.Core.List.{List, _++_}
 use mathlib.Core.Path.{_≡_, refl, sym, ap, ap₂, _∙_, subst}
 use Prim.Native.Nat.{ℕ, zero, suc, _+_, _*_, _/_, _≤_, _<_}
 use native.Mathlib.Decide.{decLt}
 use native.Mathlib.Nat.{mul-le-mul-right, div-mul-le-self, div-lt-iff-lt-mul, mul-zero}
 use native.Mathlib.Omega.{arith}
-use lib.Dec.{eqb, leb}
+use lib.Dec.{leb}
 use lib.ListN.{length, take, drop, getD, replicate, length-replicate}
 use lib.Seq.{length-take-le, take-at}
 use borrow.Author.Tests.{lt-ltb, le-leb, lt-leb, leb-true, not-true, ne-eqb}
@@ -16,7 +16,7 @@ use Rattle.lines.specs.declared.requests.Request.the-variants as Request
 use Rattle.lines.proofs.TestLaws.{and-left, and-right}
 use Rattle.shelf.specs.Counting.{choose}
 use Rattle.shelf.specs.Members.{InRange}
-use Rattle.shelf.specs.Status.{Call, write, read, badAddress, codeOf}
+use Rattle.shelf.specs.Status.{Call, write, badAddress, codeOf}
 use Rattle.shelf.specs.Lent.{Lent, flagAt, listedBy, badMeasures, arrayLength, logLength, listLength, triesList, inputRows, numberOf, formatted, formatLeaves, Answered}
 use Rattle.shelf.specs.declared.record.Geometry.{Geometry}
 use Rattle.shelf.specs.declared.record.Shelf.{Shelf}
@@ -24,7 +24,7 @@ use Rattle.shelf.proofs.general.TestLaws.{or-true}
 use Rattle.shelf.proofs.numbers.TableRows.{row-hit, row-above}
 use Rattle.shelf.proofs.numbers.InputLaws.{in-range}
 use Rattle.shelf.proofs.lent.Holding.{answered-geometry}
-use Rattle.bench.specs.Bench.{fits, dataLength, Performed}
+use Rattle.bench.specs.Bench.{fits, dataLength, readCall, firstRead, Performed}
 
 -- ---- the data of a call
 
@@ -79,7 +79,8 @@ part-length n bytes part h l =
 
 -- the first byte of an accepted read
 pub first-found : (code n : ℕ) (bytes part got : List ℕ) → n ≤ length bytes → length part ≡ length (take n bytes) → (code ≡ 0 → part ≡ got)
-    → cond (eqb code 0) (getD (take n (part ++ drop n bytes)) 0 0) 0 ≡ cond (eqb code 0) (getD got 0 0) 0
+    → firstRead code (take n (part ++ drop n bytes)) ≡ firstRead code got
+unfolding firstRead
 first-found zero n bytes part got h l same =
     ap (λ (xs : List ℕ). getD xs 0 0) (take-at part (drop n bytes) n (l ∙ length-take-le n bytes h) ∙ same refl)
 first-found (suc code) n bytes part got h l same = simp (ne-eqb (suc code) 0 (λ e. omega arith))
@@ -129,6 +130,17 @@ answered-alike h c c′ code h′ t t′ e e′ x =
       refused = x .refused;
     }
 
+-- either read tests the list, and gets 4 for its address
+read-tries : (t : Bool) (a count k : ℕ) → triesList (readCall t a count k) ≡ true
+unfolding triesList
+read-tries true a count k = refl
+read-tries false a count k = refl
+
+read-four : (t : Bool) (h : Lent) (a count k : ℕ) → badAddress (h .shelf .geometry) a count ≡ true → rowsOf h (readCall t a count k) ≡ 4
+unfolding rowsOf codeOf
+read-four true h a count k bad = sym (row-hit 4 (badAddress (h .shelf .geometry) a count) _ bad)
+read-four false h a count k bad = sym (row-hit 4 (badAddress (h .shelf .geometry) a count) _ bad)
+
 -- a write with the data that are lent is one with the data that are asked for, and so is a read
 pub write-as-asked : (h : Lent) (a count v n code : ℕ) (bytes : List ℕ) (h′ : Lent) → fits (h .shelf .geometry) ≡ true → n ≡ 32768
     → bytes ≡ replicate (dataLength count (h .shelf .geometry .b) n) v → Answered h (write a count bytes) code h′
@@ -144,18 +156,17 @@ write-as-asked h a count v n code bytes h′ t l e x =
       | no q ↦ subst (λ (d : List ℕ). Answered h (write a count d) code h′) (e ∙ simp (le-leb (count * g .b) n (omega arith))) x
     ]
 
-pub read-as-asked : (h : Lent) (a count n m code : ℕ) (h′ : Lent) → fits (h .shelf .geometry) ≡ true → n ≡ 32768
-    → m ≡ dataLength count (h .shelf .geometry .b) n → Answered h (read a count m) code h′
-    → Answered h (read a count (count * h .shelf .geometry .b)) code h′
-unfolding dataLength rowsOf codeOf triesList
-read-as-asked h a count n m code h′ t l e x =
+pub read-as-asked : (t : Bool) (h : Lent) (a count n m code : ℕ) (h′ : Lent) → fits (h .shelf .geometry) ≡ true → n ≡ 32768
+    → m ≡ dataLength count (h .shelf .geometry .b) n → Answered h (readCall t a count m) code h′
+    → Answered h (readCall t a count (count * h .shelf .geometry .b)) code h′
+unfolding dataLength
+read-as-asked t h a count n m code h′ f l e x =
     let g : Geometry = h .shelf .geometry in
     elim (decLt n (count * g .b)) [
       | yes k ↦
-          let bad : badAddress g a count ≡ true = few-blocks g a count t (omega arith) in
-          answered-alike h (read a count m) (read a count (count * g .b)) code h′ refl refl
-          (sym (row-hit 4 (badAddress g a count) _ bad)) (sym (row-hit 4 (badAddress g a count) _ bad)) x
-      | no q ↦ subst (λ (d : ℕ). Answered h (read a count d) code h′) (e ∙ simp (le-leb (count * g .b) n (omega arith))) x
+          let bad : badAddress g a count ≡ true = few-blocks g a count f (omega arith) in
+          answered-alike h (readCall t a count m) (readCall t a count (count * g .b)) code h′ (read-tries t a count m) (read-tries t a count (count * g .b)) (read-four t h a count m bad) (read-four t h a count (count * g .b) bad) x
+      | no q ↦ subst (λ (d : ℕ). Answered h (readCall t a count d) code h′) (e ∙ simp (le-leb (count * g .b) n (omega arith))) x
     ]
 
 -- ---- the geometry stays
@@ -174,6 +185,7 @@ unfolding Performed
 performed-geometry Request.Start h code first h′ p = answered-geometry h _ code h′ (p .0)
 performed-geometry (Request.Write a n v) h code first h′ p = answered-geometry h _ code h′ (p .0)
 performed-geometry (Request.Read a n) h code first h′ p = answered-geometry h _ code h′ (p .0)
+performed-geometry (Request.Fetch a n) h code first h′ p = answered-geometry h _ code h′ (p .0)
 performed-geometry (Request.Fail j) h code first h′ p = answered-geometry h _ code h′ (p .0)
 performed-geometry Request.Resync h code first h′ p = answered-geometry h _ code h′ (p .0)
 performed-geometry Request.Rebuild h code first h′ p = answered-geometry h _ code h′ (p .0)

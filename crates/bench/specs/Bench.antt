@@ -1,6 +1,6 @@
 -- The bench program's own rules: the geometry of its shelf, the room that it has, the data of a call, and what comes of a request.
 -- Assumes nothing.
-use mathlib.Core.Bool.{Bool, cond, not, _&&_}
+use mathlib.Core.Bool.{Bool, true, false, cond, not, _&&_}
 use mathlib.Core.List.{List}
 use mathlib.Core.Path.{_≡_}
 use Prim.Native.Nat.{ℕ, _+_, _*_}
@@ -12,8 +12,8 @@ use Rattle.lines.specs.RequestLines.{requestLine}
 use Rattle.lines.specs.declared.answers.Answer.{Answer}
 use Rattle.lines.specs.declared.requests.Request.{Request}
 use Rattle.lines.specs.declared.requests.Request.the-variants as Request
-use Rattle.shelf.specs.Status.{start, fail, write, read, resync, rebuild, newLog, fullResync}
-use Rattle.shelf.specs.Lent.{Lent, badMeasures, arrayLength, logLength, listLength, stateOf, readBuffer, Answered}
+use Rattle.shelf.specs.Status.{Call, start, fail, write, read, fetch, resync, rebuild, newLog, fullResync}
+use Rattle.shelf.specs.Lent.{Lent, badMeasures, arrayLength, logLength, listLength, stateOf, readBuffer, fetchBuffer, Answered}
 use Rattle.shelf.specs.declared.record.Geometry.{Geometry}
 use Rattle.bench.specs.declared.calls.Outcome.{Outcome}
 
@@ -30,18 +30,29 @@ fits g = not (badMeasures g) && leb (arrayLength g + logLength g + listLength g)
 unfoldable pub dataLength : ℕ → ℕ → ℕ → ℕ
 dataLength count b n = cond (leb (count * b) n) (count * b) 0
 
--- the first byte of what a read hands over with this code; 0 where it is refused
-unfoldable pub firstRead : Lent → ℕ → ℕ → ℕ → ℕ
-firstRead h a count code = cond (eqb code 0) (getD (readBuffer (h .shelf .geometry) (stateOf h) a count) 0 0) 0
+-- the call that reads: the plain read, or the recovering one; and what it hands over
+abbrev pub readCall : Bool → ℕ → ℕ → ℕ → Call
+readCall false a count len = read a count len
+readCall true a count len = fetch a count len
 
--- what comes of a request on what is lent: the code, the first byte read (0 if none), and what is left. The shelf's call is answered, a write's
--- data being count blocks of the fill byte v, a read's buffer count blocks long; a line that can't be read gets 15 and changes nothing.
+abbrev pub handed : Bool → Lent → ℕ → ℕ → List ℕ
+handed false h a count = readBuffer (h .shelf .geometry) (stateOf h) a count
+handed true h a count = fetchBuffer (h .shelf .geometry) (stateOf h) a count
+
+-- the first byte of what is handed over with this code; 0 where the call is refused
+unfoldable pub firstRead : ℕ → List ℕ → ℕ
+firstRead code out = cond (eqb code 0) (getD out 0 0) 0
+
+-- what comes of a request on what is lent: the code, the first byte read (0 if none), and what is left. The shelf's call is answered, a write's data
+-- being count blocks of the fill byte v, the buffer of a read or a fetch count blocks long; a line that can't be read gets 15 and changes nothing.
 unfoldable pub Performed : Request → Lent → ℕ → ℕ → Lent → Type 0
 Performed Request.Start h code first h′ = Answered h start code h′ × (first ≡ 0)
 Performed (Request.Write a count v) h code first h′ =
     Answered h (write a count (replicate (count * h .shelf .geometry .b) v)) code h′ × (first ≡ 0)
 Performed (Request.Read a count) h code first h′ =
-    Answered h (read a count (count * h .shelf .geometry .b)) code h′ × (first ≡ firstRead h a count code)
+    Answered h (read a count (count * h .shelf .geometry .b)) code h′ × (first ≡ firstRead code (readBuffer (h .shelf .geometry) (stateOf h) a count))
+Performed (Request.Fetch a count) h code first h′ =
+    Answered h (fetch a count (count * h .shelf .geometry .b)) code h′ × (first ≡ firstRead code (fetchBuffer (h .shelf .geometry) (stateOf h) a count))
 Performed (Request.Fail j) h code first h′ = Answered h (fail j) code h′ × (first ≡ 0)
 Performed Request.Resync h code first h′ = Answered h resync code h′ × (first ≡ 0)
 Performed Request.Rebuild h code first h′ = Answered h rebuild code h′ × (first ≡ 0)

@@ -2,14 +2,13 @@
 use super::room;
 use lines::requests::Request;
 use shelf::record::Shelf;
-ghost use mathlib.Core.Bool.{true, cond};
+ghost use mathlib.Core.Bool.{true};
 ghost use mathlib.Core.Path.{_≡_};
 ghost use Prim.Native.Nat.{_*_};
-ghost use lib.Dec.{eqb};
-ghost use lib.ListN.{length, getD, replicate};
+ghost use lib.ListN.{length, replicate};
 ghost use Rattle.shelf.specs.Lent.{lent, Answered};
-ghost use Rattle.shelf.specs.Status.{resync, write, read};
-ghost use Rattle.bench.specs.Bench.{fits, firstRead, Performed};
+ghost use Rattle.shelf.specs.Status.{resync, write};
+ghost use Rattle.bench.specs.Bench.{fits, readCall, handed, firstRead, Performed};
 
 // What came of a request: the number, the first byte read (0 if none), and the record after it.
 pub struct Outcome {
@@ -38,7 +37,12 @@ pub fn perform(
         Request::Write(address, count, v) => {
             write_fill(shelf, address, count, v, array, log, list, bytes)
         }
-        Request::Read(address, count) => read_first(shelf, address, count, array, log, list, bytes),
+        Request::Read(address, count) => {
+            read_first(shelf, address, count, false, array, log, list, bytes)
+        }
+        Request::Fetch(address, count) => {
+            read_first(shelf, address, count, true, array, log, list, bytes)
+        }
         Request::Fail(member) => told(shelf::shelf_fail(shelf, member, array, log, list)),
         Request::Resync => resync(shelf, array, log, list),
         Request::Rebuild => told(shelf::shelf_rebuild(shelf, array, log, list)),
@@ -98,22 +102,32 @@ fn write_fill(
     told(shelf::shelf_write(shelf, address, count, &bytes[..n], array, log, list))
 }
 
-// A read of count blocks from an address on, of which the first byte is told.
+// A read of count blocks from an address on, the recovering one or the plain one, of which the first byte is told.
 fn read_first(
     shelf: Shelf,
     address: usize,
     count: usize,
+    recovering: bool,
     array: &[u8],
     log: &[u8],
     list: &[u8],
     bytes: &mut [u8],
 ) -> Outcome
     requires { ⌜ (fits (shelf .geometry) ≡ true) × (length (now bytes) ≡ 32768) ⌝ }
-    ensures { λ r. ⌜ Answered (lent shelf (now (array .entry)) (now (log .entry)) (now (list .entry))) (read address count (count * shelf .geometry .b)) (r .code) (lent (r .shelf) (now (array .entry)) (now (log .entry)) (now (list .entry))) × (r .first ≡ firstRead (lent shelf (now (array .entry)) (now (log .entry)) (now (list .entry))) address count (r .code)) ⌝ }
+    ensures { λ r. ⌜ Answered (lent shelf (now (array .entry)) (now (log .entry)) (now (list .entry))) (readCall recovering address count (count * shelf .geometry .b)) (r .code) (lent (r .shelf) (now (array .entry)) (now (log .entry)) (now (list .entry))) × (r .first ≡ firstRead (r .code) (handed recovering (lent shelf (now (array .entry)) (now (log .entry)) (now (list .entry))) address count)) ⌝ }
 {
     let g = shelf.geometry;
     let n = room::data_length(count, g.b, bytes.len());
-    let a = shelf::shelf_read(shelf, address, count, &mut bytes[..n], array, log, list);
+    let a = read_into(
+        shelf,
+        address,
+        count,
+        recovering,
+        &mut bytes[..n],
+        array,
+        log,
+        list,
+    );
     let s = a.shelf;
     Outcome {
         code: a.code,
@@ -122,9 +136,28 @@ fn read_first(
     }
 }
 
+// A read of count blocks from an address on into out, the recovering one or the plain one.
+fn read_into(
+    shelf: Shelf,
+    address: usize,
+    count: usize,
+    recovering: bool,
+    out: &mut [u8],
+    array: &[u8],
+    log: &[u8],
+    list: &[u8],
+) -> shelf::Answer
+    ensures { λ a. ⌜ Answered (lent shelf (now (array .entry)) (now (log .entry)) (now (list .entry))) (readCall recovering address count (length (now (out .entry)))) (a .code) (lent (a .shelf) (now (array .entry)) (now (log .entry)) (now (list .entry))) × (a .code ≡ 0 → now (out .exit) ≡ handed recovering (lent shelf (now (array .entry)) (now (log .entry)) (now (list .entry))) address count) ⌝ }
+{
+    if recovering {
+        return shelf::shelf_fetch(shelf, address, count, out, array, log, list);
+    }
+    shelf::shelf_read(shelf, address, count, out, array, log, list)
+}
+
 // The first byte of what a read with this code left, or 0.
 fn first_of(code: usize, bytes: &[u8]) -> u8
-    ensures { λ r. ⌜ r ≡ cond (eqb code 0) (getD (now (bytes .entry)) 0 0) 0 ⌝ }
+    ensures { λ r. ⌜ r ≡ firstRead code (now (bytes .entry)) ⌝ }
 {
     if code != 0 {
         return 0;

@@ -52,6 +52,8 @@ examples =
     asks (102 ∷ 97 ∷ 105 ∷ 108 ∷ 32 ∷ 54 ∷ 32 ∷ 48 ∷ 32 ∷ 48 ∷ []) (Request.Fail 6) ∷
     -- `write 007 1 255`
     asks (119 ∷ 114 ∷ 105 ∷ 116 ∷ 101 ∷ 32 ∷ 48 ∷ 48 ∷ 55 ∷ 32 ∷ 49 ∷ 32 ∷ 50 ∷ 53 ∷ 53 ∷ []) (Request.Write 7 1 255) ∷
+    -- `fetch 1 1 0`
+    asks (102 ∷ 101 ∷ 116 ∷ 99 ∷ 104 ∷ 32 ∷ 49 ∷ 32 ∷ 49 ∷ 32 ∷ 48 ∷ []) (Request.Fetch 1 1) ∷
     -- `read 4294967295 1 256`
     asks (114 ∷ 101 ∷ 97 ∷ 100 ∷ 32 ∷ 52 ∷ 50 ∷ 57 ∷ 52 ∷ 57 ∷ 54 ∷ 55 ∷ 50 ∷ 57 ∷ 53 ∷ 32 ∷ 49 ∷ 32 ∷ 50 ∷ 53 ∷ 54 ∷ []) (Request.Read 4294967295 1) ∷
     -- `stop 0 0 0`
@@ -90,8 +92,10 @@ examples =
     measured (51 ∷ 32 ∷ 50 ∷ 32 ∷ 49 ∷ 32 ∷ 52 ∷ 32 ∷ 50 ∷ 32 ∷ []) Measures.Unreadable ∷
     -- `3 2 1 4 2 4294967296`
     measured (51 ∷ 32 ∷ 50 ∷ 32 ∷ 49 ∷ 32 ∷ 52 ∷ 32 ∷ 50 ∷ 32 ∷ 52 ∷ 50 ∷ 57 ∷ 52 ∷ 57 ∷ 54 ∷ 55 ∷ 50 ∷ 57 ∷ 54 ∷ []) Measures.Unreadable ∷
-    -- `read 0 1 1 2 7`
-    answers (Request.Read 1 1) 0 1 1 2 7 (114 ∷ 101 ∷ 97 ∷ 100 ∷ 32 ∷ 48 ∷ 32 ∷ 49 ∷ 32 ∷ 49 ∷ 32 ∷ 50 ∷ 32 ∷ 55 ∷ 10 ∷ []) ∷
+    -- `read 16 1 1 2 0`
+    answers (Request.Read 1 1) 16 1 1 2 0 (114 ∷ 101 ∷ 97 ∷ 100 ∷ 32 ∷ 49 ∷ 54 ∷ 32 ∷ 49 ∷ 32 ∷ 49 ∷ 32 ∷ 50 ∷ 32 ∷ 48 ∷ 10 ∷ []) ∷
+    -- `fetch 0 1 1 2 7`
+    answers (Request.Fetch 1 1) 0 1 1 2 7 (102 ∷ 101 ∷ 116 ∷ 99 ∷ 104 ∷ 32 ∷ 48 ∷ 32 ∷ 49 ∷ 32 ∷ 49 ∷ 32 ∷ 50 ∷ 32 ∷ 55 ∷ 10 ∷ []) ∷
     -- `resync 0 0 0 0 0`
     answers Request.Resync 0 0 0 0 0 (114 ∷ 101 ∷ 115 ∷ 121 ∷ 110 ∷ 99 ∷ 32 ∷ 48 ∷ 32 ∷ 48 ∷ 32 ∷ 48 ∷ 32 ∷ 48 ∷ 32 ∷ 48 ∷ 10 ∷ []) ∷
     -- `fail 6 0 0 0 0`
@@ -106,4 +110,4 @@ examples =
 
 pub all-say : AllSay examples
 unfolding same begun fields isDigit allDigits numberOf isValue allValues writeOf named requestOf requestLine measuresOf measuresLine digits decimal spelled nameOf columns answerLine formatLine
-all-say = (refl, (refl, (refl, (refl, (refl, (refl, (refl, (refl, (refl, (refl, (refl, (refl, (refl, (refl, (refl, (refl, (refl, (refl, (refl, (refl, (refl, (refl, (refl, (refl, (refl, (refl, (refl, (refl, (refl, (refl, (refl, (refl, (refl, (refl, (refl, tt)))))))))))))))))))))))))))))))))))
+all-say = (refl, (refl, (refl, (refl, (refl, (refl, (refl, (refl, (refl, (refl, (refl, (refl, (refl, (refl, (refl, (refl, (refl, (refl, (refl, (refl, (refl, (refl, (refl, (refl, (refl, (refl, (refl, (refl, (refl, (refl, (refl, (refl, (refl, (refl, (refl, (refl, (refl, tt)))))))))))))))))))))))))))))))))))))

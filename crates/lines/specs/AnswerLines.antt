@@ -4,9 +4,9 @@ use mathlib.Core.Bool.{true, false}
 use mathlib.Core.List.{List, [], _∷_, _++_}
 use Prim.Native.Nat.{ℕ, zero, suc, _+_, _/_, _%_}
 use lib.Dec.{ltb}
-use Rattle.lines.specs.Names.{startName, writeName, readName, failName, resyncName, rebuildName, newLogName, fullName, badName, formatName}
+use Rattle.lines.specs.Names.{startName, writeName, readName, fetchName, failName, resyncName, rebuildName, newLogName, fullName, badName, formatName}
 use Rattle.lines.specs.declared.requests.Request.{Request}
-use Rattle.lines.specs.declared.requests.Request.the-variants.{Start, Write, Read, Fail, Resync, Rebuild, NewLog, FullResync, Unreadable}
+use Rattle.lines.specs.declared.requests.Request.the-variants.{Start, Write, Read, Fetch, Fail, Resync, Rebuild, NewLog, FullResync, Unreadable}
 use Rattle.lines.specs.declared.answers.Answer.{Answer}
 
 -- the decimal digits of n, where k digits more than one are enough
@@ -28,6 +28,7 @@ unfoldable pub nameOf : Request → List ℕ
 nameOf Start = startName
 nameOf (Write a n v) = writeName
 nameOf (Read a n) = readName
+nameOf (Fetch a n) = fetchName
 nameOf (Fail j) = failName
 nameOf Resync = resyncName
 nameOf Rebuild = rebuildName

@@ -26,6 +26,10 @@ writeName = 119 ∷ 114 ∷ 105 ∷ 116 ∷ 101 ∷ []
 abbrev pub readName : List ℕ
 readName = 114 ∷ 101 ∷ 97 ∷ 100 ∷ []
 
+-- `fetch`
+abbrev pub fetchName : List ℕ
+fetchName = 102 ∷ 101 ∷ 116 ∷ 99 ∷ 104 ∷ []
+
 -- `fail`
 abbrev pub failName : List ℕ
 failName = 102 ∷ 97 ∷ 105 ∷ 108 ∷ []

@@ -51,43 +51,24 @@ fn name_of(request: requests::Request) -> Name
     ensures { λ r. ⌜ (take (r .len) (r .bytes) ≡ nameOf request) × ((r .len ≤ length (r .bytes)) × (r .len ≤ 7)) ⌝ }
 {
     match request {
-        requests::Request::Start => Name {
-            len: 5,
-            bytes: *b"start\0\0",
-        },
-        requests::Request::Write(_, _, _) => Name {
-            len: 5,
-            bytes: *b"write\0\0",
-        },
-        requests::Request::Read(_, _) => Name {
-            len: 4,
-            bytes: *b"read\0\0\0",
-        },
-        requests::Request::Fail(_) => Name {
-            len: 4,
-            bytes: *b"fail\0\0\0",
-        },
-        requests::Request::Resync => Name {
-            len: 6,
-            bytes: *b"resync\0",
-        },
-        requests::Request::Rebuild => Name {
-            len: 7,
-            bytes: *b"rebuild",
-        },
-        requests::Request::NewLog => Name {
-            len: 6,
-            bytes: *b"newlog\0",
-        },
-        requests::Request::FullResync => Name {
-            len: 4,
-            bytes: *b"full\0\0\0",
-        },
-        requests::Request::Unreadable => Name {
-            len: 3,
-            bytes: *b"bad\0\0\0\0",
-        },
+        requests::Request::Start => name_from(5, *b"start\0\0"),
+        requests::Request::Write(_, _, _) => name_from(5, *b"write\0\0"),
+        requests::Request::Read(_, _) => name_from(4, *b"read\0\0\0"),
+        requests::Request::Fetch(_, _) => name_from(5, *b"fetch\0\0"),
+        requests::Request::Fail(_) => name_from(4, *b"fail\0\0\0"),
+        requests::Request::Resync => name_from(6, *b"resync\0"),
+        requests::Request::Rebuild => name_from(7, *b"rebuild"),
+        requests::Request::NewLog => name_from(6, *b"newlog\0"),
+        requests::Request::FullResync => name_from(4, *b"full\0\0\0"),
+        requests::Request::Unreadable => name_from(3, *b"bad\0\0\0\0"),
     }
+}
+
+// The name that the first len of these bytes are.
+fn name_from(len: usize, bytes: [u8; 7]) -> Name
+    ensures { λ r. ⌜ r ≡ record { len = len; bytes = bytes } ⌝ }
+{
+    Name { len, bytes }
 }
 
 // Puts a word at the start of out, and answers where it ends.

@@ -4,12 +4,13 @@ use super::names;
 ghost use mathlib.Core.Path.{_≡_};
 ghost use Rattle.lines.specs.RequestLines.{named, writeOf, requestLine};
 
-// What a line asks for: a call with its values. Write has an address, a count and a fill byte, read an address and a count, fail a
-// member. A line that can't be read asks for none.
+// What a line asks for: a call with its values. Write has an address, a count and a fill byte, read and fetch an address and a
+// count, fail a member. A line that can't be read asks for none.
 pub enum Request {
     Start,
     Write(usize, usize, u8),
     Read(usize, usize),
+    Fetch(usize, usize),
     Fail(usize),
     Resync,
     Rebuild,
@@ -53,6 +54,9 @@ fn named(name: &[u8], a: usize, b: usize, c: usize) -> Request
     }
     if names::is_name(name, b"read") {
         return Request::Read(a, b);
+    }
+    if names::is_name(name, b"fetch") {
+        return Request::Fetch(a, b);
     }
     if names::is_name(name, b"fail") {
         return Request::Fail(a);

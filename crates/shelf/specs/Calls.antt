@@ -1,6 +1,6 @@
 -- What each call does to a shelf, where no row of `Status.antt` or `Lent.antt` refuses it. Tables run over stripes below s and data indices below d;
--- what they hold beyond is of no account. The stripe that a resync makes is `resyncStripe`; which stripe it tells and the buffer that a read
--- fills stand in `Lent.antt`.
+-- what they hold beyond is of no account. The stripe that a resync makes is `resyncStripe`; which stripe it tells and the buffers that read and
+-- fetch fill stand in `Lent.antt`.
 -- Assumes nothing.
 use mathlib.Core.Bool.{Bool, true, false, not, _&&_, _||_}
 use mathlib.Core.List.{List}
@@ -9,9 +9,9 @@ use Prim.Native.Nat.{ℕ, zero, suc, _+_, _-_}
 use lib.Dec.{eqb, ltb, leb}
 use Rattle.stripe.specs.Blocks.{block}
 use Rattle.shelf.specs.Counting.{choose, count, any, setAt}
-use Rattle.shelf.specs.Members.{arrayMembers, logMember, roleP, roleQ, memberAt, addressOf, stripeOf, indexOf, blockP, blockQ, workedBack}
+use Rattle.shelf.specs.Members.{arrayMembers, logMember, roleP, roleQ, memberAt, addressOf, blockP, blockQ, workedBack}
 use Rattle.shelf.specs.State.{Log, State, isSome, listed, marksIn, lowestStale}
-use Rattle.shelf.specs.Status.{Call, start, fail, write, read, resync, rebuild, newLog, fullResync, codeOf}
+use Rattle.shelf.specs.Status.{Call, start, fail, write, read, fetch, resync, rebuild, newLog, fullResync, codeOf}
 use Rattle.shelf.specs.declared.record.Geometry.{Geometry}
 
 -- ---- parts that several calls share
@@ -176,7 +176,7 @@ writeTo g (suc c) a n v s =
     let r = writeTo g c a n v s in
     choose (any (g .d) (written g a n c)) (writeStripe g r c (written g a n c) (given g a v c)) r
 
--- ---- read
+-- ---- read and fetch: a plain read gives the disks' own blocks, `disk` of the state
 
 abbrev pub orElse : {A : Type 0} → Option ℕ → (ℕ → A) → A → A
 orElse none f z = z
@@ -191,17 +191,13 @@ original g s x i =
 abbrev pub missing : Geometry → State → ℕ → ℕ → Bool
 missing g s x i = choose (ltb i (g .d) && listed (s .log) x i) (not (isSome (s .log .ori x i))) (s .failed (memberAt g x i))
 
--- the block that a read gives: its disk's, or on a failed disk Cur, else Ori, else worked back by parity
+-- the block that a fetch gives: its disk's, or on a failed disk Cur, else Ori, else worked back by parity
 unfoldable pub blockAt : Geometry → State → ℕ → ℕ → List ℕ
 blockAt g s x i =
     choose (s .failed (memberAt g x i))
     (orElse (s .log .cur x i) (s .log .value)
     (orElse (s .log .ori x i) (s .log .value) (workedBack g (missing g s x) (original g s x) i)))
     (s .disk x i)
-
--- block j of a read from address a on
-abbrev pub served : Geometry → State → ℕ → ℕ → List ℕ
-served g s a j = blockAt g s (stripeOf g (a + j)) (indexOf g (a + j))
 
 -- ---- resync
 
@@ -223,8 +219,8 @@ parityFailed g f x = f (memberAt g x (roleP g)) || f (memberAt g x (roleQ g))
 abbrev pub arrayCleared : Geometry → (ℕ → Bool) → ℕ → Bool
 arrayCleared g f i = choose (ltb i (arrayMembers g)) false (f i)
 
--- Every data block on a failed member is filled with what read would give; one on a sound member is read as it is. In the stripes whose P or Q was on
--- a failed member, and only there, both are made afresh and the listed blocks are dropped. All array flags clear, and the rest is settled: mode 2
+-- Every data block on a failed member is filled with what fetch would give; one on a sound member is read as it is. In the stripes whose P or Q was
+-- on a failed member, and only there, both are made afresh and the listed blocks are dropped. All array flags clear, and the rest is settled: mode 2
 -- becomes 0 where the list ends empty, and mode 1 remains mode 1, with or without listed blocks before and after.
 unfoldable pub rebuilt : Geometry → State → State
 rebuilt g s = settled g (withFlags (afresh g s (parityFailed g (s .failed)) (blockAt g s)) (arrayCleared g (s .failed)))
@@ -241,6 +237,7 @@ work g start s = inMode s 1
 work g (fail j) s = inMode (withFlags s (setAt j true (s .failed))) (modeWithout g j (marksIn g (listed (s .log))) (s .mode))
 work g (write a n v) s = writeTo g (g .s) a n v s
 work g (read a n len) s = s
+work g (fetch a n len) s = s
 work g resync s = resynced g s
 work g rebuild s = rebuilt g s
 work g newLog s = withFlags s (setAt (logMember g) false (s .failed))

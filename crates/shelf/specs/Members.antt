@@ -69,6 +69,10 @@ indexOf g a = a % g .d
 abbrev pub addressOf : Geometry → ℕ → ℕ → ℕ
 addressOf g x i = x * g .d + i
 
+-- of a table by stripe and data index, what it has for block j of those from address a on
+abbrev pub wanted : {A : Type 0} → Geometry → (ℕ → ℕ → A) → ℕ → ℕ → A
+wanted g t a j = t (stripeOf g (a + j)) (indexOf g (a + j))
+
 -- ---- blocks: lists of b bytes
 
 abbrev pub IsBlock : Geometry → List ℕ → Type 0

@@ -1,4 +1,4 @@
--- Words for the contracts of the functions that a rebuild is made of: what they ask of what is lent; the array with blocks filled as a read gives
+-- Words for the contracts of the functions that a rebuild is made of: what they ask of what is lent; the array with blocks filled as a fetch gives
 -- them, one after another and stripe after stripe, and the record and the list after it.
 -- Assumes nothing.
 use mathlib.Core.Bool.{Bool, true}
@@ -33,7 +33,7 @@ withheldAt r l x = any (r .geometry .d) (λ i. withheld (r .geometry) (flagAt r)
 
 -- ---- what the functions ask
 
--- what a read's functions ask of what is lent, and no more than two failed members of the array
+-- what a fetch's functions ask of what is lent, and no more than two failed members of the array
 pub record Rebuildable (h : Lent) : Type 0 where
   pub ready : Ready h
   pub two : count (arrayMembers (h .shelf .geometry)) (flagAt (h .shelf)) ≤ 2
@@ -57,7 +57,7 @@ stillMissing i y = choose (ltb y i) i y
 abbrev pub withArray : Lent → List ℕ → Lent
 withArray h a = lent (h .shelf) a (h .log) (h .list)
 
--- with the block of data index i of stripe x as a read gives it
+-- with the block of data index i of stripe x as a fetch gives it
 unfoldable pub filledAt : Lent → ℕ → ℕ → List ℕ
 filledAt h x i = put (h .shelf .geometry .b) (placeAt (h .shelf .geometry) x i) (servedBlock h x i) (h .array)
 

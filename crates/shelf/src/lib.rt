@@ -1,16 +1,17 @@
 // A record shelf: a RAID-6 array whose parity is put off through a log and a list. The caller lends the record, the array, the log and
 // the list to each call; nothing is kept between calls.
 //
-// Here stand the calls for C. Below them: `record` has the shelf record and its methods, `status` decides the number by which a call
-// is refused, before anything is stored. The list of the blocks whose parity is put off is bytes: `words` reads and writes them as
-// 32-bit words, `list` looks a block up and tests a list for number 3, `entries` moves a list's entries in their places and makes the
-// chains anew, `alter` drops and replaces the entries of a stripe and drops those of stripes that lost their parity, `stale` tells
-// which stripes have a listed block. The calls that move blocks have a file each, `read`, `write`, `resync`, `rebuild`; a write's
+// Here stand the calls for C. Below them: `record` has the shelf record and its methods, `status` decides the number by which a call is
+// refused, before anything is stored. The list of the blocks whose parity is put off is bytes: `words` reads and writes them as 32-bit
+// words, `list` looks a block up and tests a list for number 3, `entries` moves a list's entries in their places and makes the chains
+// anew, `alter` drops and replaces the entries of a stripe and drops those of stripes that lost their parity, `stale` tells which
+// stripes have a listed block. The calls that move blocks have a file each, `read`, `fetch`, `write`, `resync`, `rebuild`; a write's
 // stripe goes by its `share` of the caller's data, and one that is logged by a `plan`, the stripe's `row` of the list, `log` and
 // `copies`. The contracts cite `specs/`: `Lent.antt` has the promise of every call, `Calls.antt` what each does.
 mod alter;
 mod copies;
 mod entries;
+mod fetch;
 mod list;
 mod log;
 mod plan;
@@ -28,8 +29,8 @@ mod write;
 ghost use mathlib.Core.Logic.{_≢_};
 ghost use mathlib.Core.Path.{_≡_};
 ghost use lib.ListN.{length, replicate};
-ghost use Rattle.shelf.specs.Status.{start, fail, write, read, resync, rebuild, newLog, fullResync};
-ghost use Rattle.shelf.specs.Lent.{lent, formatCode, formatLeaves, freshRecord, stateOf, readBuffer, toldStripe, Answered};
+ghost use Rattle.shelf.specs.Status.{start, fail, write, read, fetch, resync, rebuild, newLog, fullResync};
+ghost use Rattle.shelf.specs.Lent.{lent, formatCode, formatLeaves, freshRecord, stateOf, readBuffer, fetchBuffer, toldStripe, Answered};
 
 // What a call hands back: its number, 0 where it was accepted, and the record after it.
 #[repr(C)]
@@ -131,8 +132,9 @@ pub extern "C" fn shelf_write(
     }
 }
 
-// Reads count blocks from an address on into out, of count times b bytes. Answers 0; or the first of 1, 2, 3, 4, 5, 14 that applies,
-// and then out stays as it was. Stores no byte of the shelf.
+// The plain read: reads count blocks from an address on into out, of count times b bytes, where they are all on sound disks. Looks at
+// no byte of the log. Answers 0; or the first of 1, 2, 3, 4, 5, 16 that applies, and then out stays as it was. Stores no byte of the
+// shelf.
 #[no_mangle]
 pub extern "C" fn shelf_read(
     shelf: record::Shelf,
@@ -145,7 +147,6 @@ pub extern "C" fn shelf_read(
 ) -> Answer
     ensures { λ a. ⌜ Answered (lent shelf (now (array .entry)) (now (log .entry)) (now (list .entry))) (read address count (length (now (out .entry)))) (a .code) (lent (a .shelf) (now (array .entry)) (now (log .entry)) (now (list .entry))) × ((a .code ≡ 0 → now (out .exit) ≡ readBuffer (shelf .geometry) (stateOf (lent shelf (now (array .entry)) (now (log .entry)) (now (list .entry)))) address count) × (a .code ≢ 0 → now (out .exit) ≡ now (out .entry))) ⌝ }
 {
-    let g = shelf.geometry;
     let number = status::read_code(
         shelf,
         address,
@@ -161,19 +162,38 @@ pub extern "C" fn shelf_read(
             shelf,
         };
     }
-    let mut work = [0u8; 4096];
-    let mut products = [0u8; 256];
-    read::read_blocks(
+    read::read_blocks(shelf.geometry, address, count, out, array);
+    Answer { code: 0, shelf }
+}
+
+// The recovering read: reads count blocks from an address on into out, of count times b bytes, those on failed disks from the log or
+// worked back by parity. Answers 0; or the first of 1, 2, 3, 4, 5, 14 that applies, and then out stays as it was. Stores no byte of the
+// shelf.
+#[no_mangle]
+pub extern "C" fn shelf_fetch(
+    shelf: record::Shelf,
+    address: usize,
+    count: usize,
+    out: &mut [u8],
+    array: &[u8],
+    log: &[u8],
+    list: &[u8],
+) -> Answer
+    ensures { λ a. ⌜ Answered (lent shelf (now (array .entry)) (now (log .entry)) (now (list .entry))) (fetch address count (length (now (out .entry)))) (a .code) (lent (a .shelf) (now (array .entry)) (now (log .entry)) (now (list .entry))) × ((a .code ≡ 0 → now (out .exit) ≡ fetchBuffer (shelf .geometry) (stateOf (lent shelf (now (array .entry)) (now (log .entry)) (now (list .entry)))) address count) × (a .code ≢ 0 → now (out .exit) ≡ now (out .entry))) ⌝ }
+{
+    let code = status::fetch_code(
         shelf,
         address,
         count,
-        out,
-        array,
-        log,
+        out.len(),
+        array.len(),
+        log.len(),
         list,
-        &mut work[..g.b],
-        &mut products,
     );
+    if code != 0 {
+        return Answer { code, shelf };
+    }
+    fetch::fetch_blocks(shelf, address, count, out, array, log, list);
     Answer { code: 0, shelf }
 }
 
@@ -236,7 +256,7 @@ pub extern "C" fn shelf_resync(
     }
 }
 
-// Fills every data block on a failed member with what a read gives and clears the array's flags. In the stripes whose P or Q was on a
+// Fills every data block on a failed member with what a fetch gives and clears the array's flags. In the stripes whose P or Q was on a
 // failed member both are made afresh and the listed blocks are dropped; if no block is left listed, all log records are free and mode 2
 // ends. Mode 1 remains. Answers 0; or the first of 1, 2, 3, 12, 14 that applies, and then stores nothing.
 #[no_mangle]

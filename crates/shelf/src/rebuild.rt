@@ -1,8 +1,8 @@
-// A rebuild: every data block on a failed member is filled with what a read gives, stripe after stripe, and P and Q are made afresh in the
+// A rebuild: every data block on a failed member is filled with what a fetch gives, stripe after stripe, and P and Q are made afresh in the
 // stripes in which one of them was on a failed member.
 use super::alter;
+use super::fetch;
 use super::list;
-use super::read;
 use super::record;
 use super::words;
 ghost use mathlib.Core.Bool.{true};
@@ -133,9 +133,9 @@ fn refill_block(
     requires { ⌜ Rebuildable (lent shelf (now array) (now log) (now list)) × ((x < shelf .geometry .s) × ((i < shelf .geometry .d) × ((length (now work) ≡ shelf .geometry .b) × (Products (now products) × (FilledBelow (lent shelf (now array) (now log) (now list)) x i × Lost shelf (now list) x i))))) ⌝ }
     ensures { λ _. ⌜ (now (work .exit) ≡ lostBlock (lent shelf (now (array .entry)) (now (log .entry)) (now (list .entry))) x i) × Products (now (products .exit)) ⌝ }
 {
-    let y = read::other_missing(shelf, list, x, i);
+    let y = fetch::other_missing(shelf, list, x, i);
     let z = still_missing(i, y);
-    read::solve_originals(shelf, x, i, z, array, log, list, work, products);
+    fetch::solve_originals(shelf, x, i, z, array, log, list, work, products);
 }
 
 // The other missing role y beside i, unless it is a block below i, which is filled; then i.

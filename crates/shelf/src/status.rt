@@ -8,7 +8,7 @@ ghost use mathlib.Core.Bool.{_&&_, _||_, true};
 ghost use mathlib.Core.Path.{_≡_};
 ghost use Prim.Native.Nat.{_+_, _*_, _≤_, _<_};
 ghost use Rattle.shelf.specs.Members.{InRange};
-ghost use Rattle.shelf.specs.Status.{codeOf, start, fail, write, read, resync, rebuild, newLog, fullResync, row, logFailed, badAddress, readWithheld, dataWithheld, withheld};
+ghost use Rattle.shelf.specs.Status.{codeOf, start, fail, write, read, fetch, resync, rebuild, newLog, fullResync, row, logFailed, badAddress, blockRows, fetchWithheld, dataWithheld, withheld, readFailed};
 ghost use Rattle.shelf.specs.Lent.{flagAt, listedBy, outside, badMeasures, badRecord, badLengths, inputRows, numberOf, formatCode};
 ghost use Rattle.shelf.specs.Records.{unmarked, newLogRows};
 ghost use Rattle.shelf.specs.Reading.{ListReady};
@@ -68,7 +68,7 @@ pub fn write_code(
     write_rows(shelf, a, n, source)
 }
 
-// What a read of n blocks from address a on into len bytes answers, for an array and a log of these lengths.
+// What a plain read of n blocks from address a on into len bytes answers, for an array and a log of these lengths.
 pub fn read_code(
     shelf: record::Shelf,
     a: usize,
@@ -84,7 +84,26 @@ pub fn read_code(
     if code != 0 {
         return code;
     }
-    read_rows(shelf, a, n, len, list)
+    read_rows(shelf, a, n, len)
+}
+
+// What a fetch of n blocks from address a on into len bytes answers, for an array and a log of these lengths.
+pub fn fetch_code(
+    shelf: record::Shelf,
+    a: usize,
+    n: usize,
+    len: usize,
+    array: usize,
+    log: usize,
+    list: &[u8],
+) -> usize
+    ensures { λ c. ⌜ c ≡ numberOf shelf array log (now (list .entry)) (fetch a n len) ⌝ }
+{
+    let code = input_code(shelf, array, log, list, true);
+    if code != 0 {
+        return code;
+    }
+    fetch_rows(shelf, a, n, len, list)
 }
 
 // What new log answers, for an array and a log of these lengths.
@@ -193,33 +212,59 @@ fn write_rows(shelf: record::Shelf, a: usize, n: usize, source: &[u8]) -> usize
     requires { ⌜ InRange (shelf .geometry) ⌝ }
     ensures { λ c. ⌜ c ≡ codeOf (shelf .geometry) (flagAt shelf) (shelf .mode) unmarked (write a n (now (source .entry))) ⌝ }
 {
-    let g = shelf.geometry;
-    if bad_address(g, a, n) {
-        return 4;
-    }
-    if source.len() != n * g.b {
-        return 5;
+    let code = block_rows(shelf.geometry, a, n, source.len());
+    if code != 0 {
+        return code;
     }
     full_resync_rows(shelf)
 }
 
-// The rows of read: 4, 5, 14. Row 14 is looked for only where the log has failed.
-fn read_rows(shelf: record::Shelf, a: usize, n: usize, len: usize, list: &[u8]) -> usize
-    requires { ⌜ ListReady shelf (now list) ⌝ }
-    ensures { λ c. ⌜ c ≡ codeOf (shelf .geometry) (flagAt shelf) (shelf .mode) (listedBy (shelf .geometry) (now (list .entry))) (read a n len) ⌝ }
+// The rows of read: 4, 5, 16. Row 16 is looked for only where an array member has failed.
+fn read_rows(shelf: record::Shelf, a: usize, n: usize, len: usize) -> usize
+    requires { ⌜ InRange (shelf .geometry) ⌝ }
+    ensures { λ c. ⌜ c ≡ codeOf (shelf .geometry) (flagAt shelf) (shelf .mode) unmarked (read a n len) ⌝ }
 {
-    let g = shelf.geometry;
+    let code = block_rows(shelf.geometry, a, n, len);
+    if code != 0 {
+        return code;
+    }
+    if !shelf.array_failed() {
+        return 0;
+    }
+    if read_failed(shelf, a, n) {
+        return 16;
+    }
+    0
+}
+
+// The rows of fetch: 4, 5, 14. Row 14 is looked for only where the log has failed.
+fn fetch_rows(shelf: record::Shelf, a: usize, n: usize, len: usize, list: &[u8]) -> usize
+    requires { ⌜ ListReady shelf (now list) ⌝ }
+    ensures { λ c. ⌜ c ≡ codeOf (shelf .geometry) (flagAt shelf) (shelf .mode) (listedBy (shelf .geometry) (now (list .entry))) (fetch a n len) ⌝ }
+{
+    let code = block_rows(shelf.geometry, a, n, len);
+    if code != 0 {
+        return code;
+    }
+    if !shelf.log_failed() {
+        return 0;
+    }
+    if fetch_withheld(shelf, a, n, list) {
+        return 14;
+    }
+    0
+}
+
+// Rows 4 and 5, of a call on n blocks from address a on with len bytes of the caller's.
+fn block_rows(g: record::Geometry, a: usize, n: usize, len: usize) -> usize
+    requires { ⌜ InRange g ⌝ }
+    ensures { λ c. ⌜ c ≡ blockRows g a n len 0 ⌝ }
+{
     if bad_address(g, a, n) {
         return 4;
     }
     if len != n * g.b {
         return 5;
-    }
-    if !shelf.log_failed() {
-        return 0;
-    }
-    if read_withheld(shelf, a, n, list) {
-        return 14;
     }
     0
 }
@@ -239,10 +284,26 @@ fn bad_address(g: record::Geometry, a: usize, n: usize) -> bool
     all - n < a
 }
 
-// Row 14 of a read of n blocks from address a on.
-fn read_withheld(shelf: record::Shelf, a: usize, n: usize, list: &[u8]) -> bool
+// Row 16: one of the n blocks from address a on is on a failed disk.
+fn read_failed(shelf: record::Shelf, a: usize, n: usize) -> bool
+    requires { ⌜ InRange (shelf .geometry) × (a + n ≤ shelf .geometry .d * shelf .geometry .s) ⌝ }
+    ensures { λ r. ⌜ r ≡ readFailed (shelf .geometry) (flagAt shelf) a n ⌝ }
+{
+    let g = shelf.geometry;
+    let mut j = n;
+    while j > 0 {
+        j -= 1;
+        if shelf.role_failed((a + j) / g.d, (a + j) % g.d) {
+            return true;
+        }
+    }
+    false
+}
+
+// Row 14 of a fetch of n blocks from address a on.
+fn fetch_withheld(shelf: record::Shelf, a: usize, n: usize, list: &[u8]) -> bool
     requires { ⌜ ListReady shelf (now list) × (a + n ≤ shelf .geometry .d * shelf .geometry .s) ⌝ }
-    ensures { λ r. ⌜ r ≡ readWithheld (shelf .geometry) (flagAt shelf) (listedBy (shelf .geometry) (now (list .entry))) a n ⌝ }
+    ensures { λ r. ⌜ r ≡ fetchWithheld (shelf .geometry) (flagAt shelf) (listedBy (shelf .geometry) (now (list .entry))) a n ⌝ }
 {
     let g = shelf.geometry;
     let mut j = n;

@@ -86,7 +86,7 @@ impl Maker {
         Ok(parts.bytes(&mut self.random))
     }
 
-    /// A sound input in which members fail and each block is read.
+    /// A sound input in which members fail and each block is read by both reads.
     fn losses(&mut self) -> Made {
         let m = roomy(&mut self.random);
         Ok(Parts::of_calls(m, &losses(m, &mut self.random)).bytes(&mut self.random))
@@ -117,7 +117,8 @@ impl Maker {
         let mut parts = Parts::of_calls(m, &self.session(m, 8)?);
         if self.random.below(2) == 0 {
             let all = m.d * m.s;
-            parts.calls.splice(0..0, [format!("write 0 {all} 77").into(), format!("read 0 {all} 0").into()]);
+            let first = ["write", "read", "fetch"].map(|name| format!("{name} 0 {all} 77").into());
+            parts.calls.splice(0..0, first);
         }
         Ok(parts.bytes(&mut self.random))
     }

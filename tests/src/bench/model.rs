@@ -56,7 +56,7 @@ impl Bench {
     /// The caller's data: as many bytes as the count asks for, each the fill byte; none where they are more than the
     /// shelf can have.
     fn data(&self, line: &CallLine) -> Buffer {
-        let (Call::Write { count, .. } | Call::Read { count, .. }) = line.call else {
+        let Some((_, count)) = line.call.blocks() else {
             return Buffer::empty();
         };
         let told = count * self.shelf.record.measures.b;

@@ -3,11 +3,12 @@
 use std::collections::BTreeMap;
 
 /// What a line of the output may begin with: a call and a number that can occur.
-const LINES: [(&str, &[usize]); 10] = [
+const LINES: [(&str, &[usize]); 11] = [
     ("format", &[0, 1]),
     ("start", &[0, 7, 8, 9]),
     ("write", &[0, 4, 8]),
-    ("read", &[0, 4, 14]),
+    ("read", &[0, 4, 16]),
+    ("fetch", &[0, 4, 14]),
     ("fail", &[0, 6, 10, 11]),
     ("resync", &[0, 7, 8]),
     ("rebuild", &[0, 12, 14]),

@@ -3,7 +3,7 @@
 use super::lines::call_line;
 use super::model::Bench;
 use crate::random::Random;
-use crate::shelf::calls::{Call, Measures};
+use crate::shelf::calls::{fetch, read, write, Call, Measures};
 use crate::shelf::events::Seen;
 use crate::shelf::lists::pick;
 use crate::shelf::{requests, sequences};
@@ -46,6 +46,7 @@ fn words(call: Call) -> (&'static str, Vec<usize>) {
         Call::NewLog => ("newlog", vec![]),
         Call::Write { address, count } => ("write", vec![address, count]),
         Call::Read { address, count } => ("read", vec![address, count]),
+        Call::Fetch { address, count } => ("fetch", vec![address, count]),
         Call::Resync => ("resync", vec![]),
         Call::Rebuild => ("rebuild", vec![]),
         Call::FullResync => ("full", vec![]),
@@ -105,14 +106,14 @@ pub fn roomy(random: &mut Random) -> Measures {
 }
 
 /// The call lines of a session in which members fail after logged writes, the first of them over all blocks of a stripe
-/// but one: each block is read, then the array rebuilt, and each block read again.
+/// but one: each block is read by both reads, then the array rebuilt, and each block read again.
 pub fn losses(m: Measures, random: &mut Random) -> Vec<Fields> {
-    let mut calls = vec![Call::Write { address: 0, count: m.d * m.s }, Call::Start];
-    calls.push(Call::Write { address: pick(m.s, random) * m.d + pick(2, random), count: m.d - 1 });
-    let write = |random: &mut Random| requests::at(pick(m.d * m.s, random), m, random).call(true);
-    calls.extend((0..pick(5, random)).map(|_| write(random)));
+    let mut calls = vec![write(0, m.d * m.s), Call::Start];
+    calls.push(write(pick(m.s, random) * m.d + pick(2, random), m.d - 1));
+    let some_write = |random: &mut Random| requests::at(pick(m.d * m.s, random), m, random).call(write);
+    calls.extend((0..pick(5, random)).map(|_| some_write(random)));
     calls.extend((0..1 + pick(2, random)).map(|_| Call::Fail(pick(m.d + 3, random))));
-    let reads: Vec<Call> = (0..m.d * m.s).map(|address| Call::Read { address, count: 1 }).collect();
+    let reads: Vec<Call> = (0..m.d * m.s).flat_map(|address| [read(address, 1), fetch(address, 1)]).collect();
     calls.extend(&reads);
     calls.push(Call::Rebuild);
     calls.extend(&reads);

@@ -75,11 +75,15 @@ impl Book {
         }
     }
 
+    /// Whether an address has its own member failed.
+    pub fn loses(&self, address: usize) -> bool {
+        let (stripe, place) = (address / self.m.d, 2 + address % self.m.d);
+        self.members.iter().any(|&member| member < self.m.d + 2 && self.after_p(member, stripe) == place)
+    }
+
     /// Whether an address has its own member and the log both failed while its stripe awaits resynchronisation.
     pub fn withholds(&self, address: usize) -> bool {
-        let (stripe, place) = (address / self.m.d, 2 + address % self.m.d);
-        let is_lost = |&member: &usize| member < self.m.d + 2 && self.after_p(member, stripe) == place;
-        self.log_failed() && self.awaits(stripe) && self.members.iter().any(is_lost)
+        self.log_failed() && self.awaits(address / self.m.d) && self.loses(address)
     }
 
     /// The number that a call gets, which is given so many bytes of data.
@@ -102,6 +106,10 @@ impl Book {
                 number => number,
             },
             Call::Read { address, count } => match self.request(address, count, data_len) {
+                0 if (address..address + count).any(|address| self.loses(address)) => 16,
+                number => number,
+            },
+            Call::Fetch { address, count } => match self.request(address, count, data_len) {
                 0 if (address..address + count).any(|address| self.withholds(address)) => 14,
                 number => number,
             },
@@ -141,7 +149,7 @@ impl Book {
                 self.members.remove(&log);
             }
             Call::Write { address, count } => self.write(address..address + count, data),
-            Call::Read { .. } => {}
+            Call::Read { .. } | Call::Fetch { .. } => {}
             Call::Resync => {
                 self.mode = 2;
                 self.marks.first().copied().into_iter().for_each(|lowest| self.unmark(lowest / self.m.d));

@@ -51,6 +51,33 @@ mod archive {
     type Into = *mut u8;
     type From = *const u8;
 
+    /// Declares calls on some blocks: what they do with the caller's data, and with the three buffers.
+    macro_rules! on_blocks {
+        ($($name:ident($data:ty, $rest:ty);)*) => {
+            extern "C" {
+                $(pub fn $name(
+                    r: Record,
+                    address: usize,
+                    count: usize,
+                    data: $data,
+                    data_len: usize,
+                    a: $rest,
+                    an: usize,
+                    g: $rest,
+                    gn: usize,
+                    i: $rest,
+                    n: usize,
+                ) -> Answer;)*
+            }
+        };
+    }
+
+    on_blocks! {
+        shelf_write(From, Into);
+        shelf_read(Into, From);
+        shelf_fetch(Into, From);
+    }
+
     extern "C" {
         pub fn shelf_format(r: Record, a: Into, an: usize, g: Into, gn: usize, i: Into, n: usize) -> Answer;
         pub fn shelf_start(r: Record, a: From, an: usize, g: From, gn: usize, i: From, n: usize) -> Answer;
@@ -59,36 +86,11 @@ mod archive {
         pub fn shelf_resync(r: Record, a: Into, an: usize, g: From, gn: usize, i: Into, n: usize) -> Resynced;
         pub fn shelf_rebuild(r: Record, a: Into, an: usize, g: From, gn: usize, i: Into, n: usize) -> Answer;
         pub fn shelf_full_resync(r: Record, a: Into, an: usize, g: From, gn: usize, i: Into, n: usize) -> Answer;
-        pub fn shelf_write(
-            r: Record,
-            address: usize,
-            count: usize,
-            data: From,
-            data_len: usize,
-            a: Into,
-            an: usize,
-            g: Into,
-            gn: usize,
-            i: Into,
-            n: usize,
-        ) -> Answer;
-        pub fn shelf_read(
-            r: Record,
-            address: usize,
-            count: usize,
-            data: Into,
-            data_len: usize,
-            a: From,
-            an: usize,
-            g: From,
-            gn: usize,
-            i: From,
-            n: usize,
-        ) -> Answer;
     }
 }
 
-/// A call on a shelf: the member that fail names, the address and the count of blocks of write and read.
+/// A call on a shelf: the member that fail names, the address and the count of blocks of a write, of a plain read and of
+/// a recovering one, which is fetch.
 #[derive(Clone, Copy, Debug, PartialEq)]
 pub enum Call {
     Format,
@@ -97,21 +99,41 @@ pub enum Call {
     NewLog,
     Write { address: usize, count: usize },
     Read { address: usize, count: usize },
+    Fetch { address: usize, count: usize },
     Resync,
     Rebuild,
     FullResync,
 }
 
+/// A write of some blocks.
+pub const fn write(address: usize, count: usize) -> Call {
+    Call::Write { address, count }
+}
+
+/// A plain read of them.
+pub const fn read(address: usize, count: usize) -> Call {
+    Call::Read { address, count }
+}
+
+/// A recovering read of them.
+pub const fn fetch(address: usize, count: usize) -> Call {
+    Call::Fetch { address, count }
+}
+
 /// The address of each lent buffer and the length told: array, log, list, the caller's data.
 pub type Lent = [(*mut u8, usize); 4];
+
+/// What a call answers: the number, the stripe that resync tells, and the record.
+pub type Answered = (usize, Option<usize>, Record);
 
 impl Call {
     /// The call that has this name in the customer's sessions, with the first two values there; none if none has it.
     pub fn named(name: &str, first: usize, second: usize) -> Option<Call> {
         Some(match name {
             "start" => Call::Start,
-            "write" => Call::Write { address: first, count: second },
-            "read" => Call::Read { address: first, count: second },
+            "write" => write(first, second),
+            "read" => read(first, second),
+            "fetch" => fetch(first, second),
             "fail" => Call::Fail(first),
             "resync" => Call::Resync,
             "rebuild" => Call::Rebuild,
@@ -121,11 +143,26 @@ impl Call {
         })
     }
 
-    /// Makes the call; hands back the number, the stripe that resync tells, and the record.
+    /// The address and the count of the blocks that a write or either read is asked for; none of another call.
+    pub fn blocks(self) -> Option<(usize, usize)> {
+        match self {
+            Call::Write { address, count } | Call::Read { address, count } | Call::Fetch { address, count } => {
+                Some((address, count))
+            }
+            _ => None,
+        }
+    }
+
+    /// Whether the call is a read, plain or recovering: it stores into the caller's data alone.
+    pub fn is_read(self) -> bool {
+        matches!(self, Call::Read { .. } | Call::Fetch { .. })
+    }
+
+    /// Makes the call.
     ///
     /// # Safety
     /// The addresses are those of buffers as long as is told, or the call must not look at the bytes.
-    pub unsafe fn made(self, r: Record, lent: Lent) -> (usize, Option<usize>, Record) {
+    pub unsafe fn made(self, r: Record, lent: Lent) -> Answered {
         let [(a, an), (g, gn), (i, n), (data, data_len)] = lent;
         let answer = match self {
             Call::Format => archive::shelf_format(r, a, an, g, gn, i, n),
@@ -136,6 +173,9 @@ impl Call {
                 archive::shelf_write(r, address, count, data, data_len, a, an, g, gn, i, n)
             }
             Call::Read { address, count } => archive::shelf_read(r, address, count, data, data_len, a, an, g, gn, i, n),
+            Call::Fetch { address, count } => {
+                archive::shelf_fetch(r, address, count, data, data_len, a, an, g, gn, i, n)
+            }
             Call::Resync => {
                 let Resynced { code, stripe, record } = archive::shelf_resync(r, a, an, g, gn, i, n);
                 return (code, Some(stripe), record);
@@ -167,7 +207,7 @@ impl Buffer {
     }
 }
 
-/// What is lent to a call. The caller's data is lent to write and read only.
+/// What is lent to a call. The caller's data is lent to a write and to both reads only.
 #[derive(Clone)]
 pub struct Shelf {
     pub record: Record,

@@ -1,7 +1,7 @@
-//! Rows 4 to 14 of the table of numbers, each tried on its own.
+//! Rows 4 to 16 of the table of numbers, each tried on its own.
 
-use super::calls::{Call, Shelf};
-use super::model::failed;
+use super::calls::{Call, Record, Shelf};
+use super::model::{failed, in_ranges};
 use super::roles;
 
 /// The bit of a number where it applies.
@@ -9,7 +9,7 @@ fn is(number: u32, applies: bool) -> u32 {
     u32::from(applies) << number
 }
 
-/// The numbers of rows 4 to 14 that apply to a call, bit n for number n. The flags tell for each address whether it is
+/// The numbers of rows 4 to 16 that apply to a call, bit n for number n. The flags tell for each address whether it is
 /// listed; there are none where nothing can be said of the list.
 pub fn conditions(call: Call, shelf: &Shelf, is_listed: &[bool]) -> u32 {
     let r = &shelf.record;
@@ -24,7 +24,8 @@ pub fn conditions(call: Call, shelf: &Shelf, is_listed: &[bool]) -> u32 {
         }
         Call::NewLog => is(12, !failed(r, log)) | is(13, r.listed > 0),
         Call::Write { address, count } => request(shelf, address, count) | is(8, array_failed),
-        Call::Read { address, count } => {
+        Call::Read { address, count } => request(shelf, address, count) | is(16, lost(r, address, count)),
+        Call::Fetch { address, count } => {
             let wanted = address..address.saturating_add(count);
             request(shelf, address, count) | is(14, withheld(shelf, is_listed, |block| wanted.contains(&block)))
         }
@@ -43,15 +44,32 @@ fn request(shelf: &Shelf, address: usize, count: usize) -> u32 {
     is(4, bad_address) | is(5, wide(shelf.data.told) != wide(count) * wide(m.b))
 }
 
+/// Whether a wanted data block of one of these stripes is on a failed member.
+fn on_failed(r: &Record, mut stripes: impl Iterator<Item = usize>, wanted: impl Fn(usize) -> bool) -> bool {
+    let d = r.measures.d;
+    stripes.any(|stripe| {
+        let members = roles::members(r.measures, stripe);
+        (0..d).any(|index| wanted(stripe * d + index) && failed(r, members[index]))
+    })
+}
+
+/// Whether one of these blocks, as far as the shelf has them, is on a failed member. With measures out of their ranges
+/// no block has a member.
+fn lost(r: &Record, address: usize, count: usize) -> bool {
+    let m = r.measures;
+    if !in_ranges(m) {
+        return false;
+    }
+    let wanted = address..address.saturating_add(count).min(m.d * m.s);
+    on_failed(r, address / m.d..wanted.end.div_ceil(m.d), |block| wanted.contains(&block))
+}
+
 /// Whether the log failed and a wanted data block is on a failed member in a waiting stripe.
 fn withheld(shelf: &Shelf, is_listed: &[bool], wanted: impl Fn(usize) -> bool) -> bool {
     let (r, d) = (&shelf.record, shelf.record.measures.d);
     if !failed(r, d.saturating_add(2)) {
         return false;
     }
-    let mut stripes = is_listed.chunks(d.max(1)).enumerate().filter(|(_, blocks)| blocks.contains(&true));
-    stripes.any(|(stripe, _)| {
-        let members = roles::members(r.measures, stripe);
-        (0..d).any(|index| wanted(stripe * d + index) && failed(r, members[index]))
-    })
+    let waiting = is_listed.chunks(d.max(1)).enumerate().filter(|(_, blocks)| blocks.contains(&true));
+    on_failed(r, waiting.map(|(stripe, _)| stripe), wanted)
 }

@@ -1,5 +1,5 @@
-//! The ways in which an accepted call does its work, so that a group can tell whether it came through all of them, in
-//! each layout.
+//! The ways in which an accepted call does its work, and those in which a plain read is refused where a recovering one is
+//! not or is withheld too, so that a group can tell whether it came through all of them, in each layout.
 
 /// Declares the ways of the work, and the list of them all.
 macro_rules! events {
@@ -29,14 +29,21 @@ events! {
     WriteDropsLastTransitional,
     WriteLogsAfterDroppingLast,
     ReadSound,
-    ReadSoundListed,
-    ReadCur,
-    ReadOri,
-    ReadByP,
-    ReadByQ,
-    ReadByBoth,
-    ReadBesideOri,
-    ReadWithoutLog,
+    ReadBesideFailed,
+    ReadStaleWithoutLog,
+    ReadLostInCur,
+    ReadLostInOri,
+    ReadLostByParity,
+    ReadLostAndWithheld,
+    FetchSound,
+    FetchSoundListed,
+    FetchCur,
+    FetchOri,
+    FetchByP,
+    FetchByQ,
+    FetchByBoth,
+    FetchBesideOri,
+    FetchWithoutLog,
     ResyncNone,
     ResyncSome,
     ResyncLast,

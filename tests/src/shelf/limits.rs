@@ -1,6 +1,6 @@
 //! Shelves at the limits of their measures: lists of 4,096 places, logs of 65,536 records, lengths past 2^32.
 
-use super::calls::{Buffer, Call, Measures, Record, Shelf};
+use super::calls::{fetch, read, write, Buffer, Call, Measures, Record, Shelf};
 use super::damage::damage_list;
 use super::layout::List;
 use super::lists::{self, pick};
@@ -114,8 +114,9 @@ fn with_failed(shelf: &Shelf, members: &[usize]) -> Shelf {
     after
 }
 
-/// Makes a write or a read of so many blocks as the model does it.
-fn request(call: Call, count: usize, shelf: &mut Shelf, stand: &mut Stand) -> Result<(), String> {
+/// Makes a write or a read as the model does it.
+fn request(call: Call, shelf: &mut Shelf, stand: &mut Stand) -> Result<(), String> {
+    let (_, count) = call.blocks().unwrap_or((0, 0));
     shelf.data = Buffer::of(filled((count * shelf.record.measures.b) as u128));
     stand.as_model(call, shelf).map(|_| ())
 }
@@ -150,8 +151,9 @@ fn served(shelf: &Shelf, stand: &mut Stand) -> Result<(), String> {
         }
         let mut shelf = with_failed(shelf, &members);
         for (address, count) in ranges(m) {
-            request(Call::Read { address, count }, count, &mut shelf, stand)?;
-            request(Call::Write { address, count }, count, &mut shelf, stand)?;
+            for call in [read(address, count), fetch(address, count), write(address, count)] {
+                request(call, &mut shelf, stand)?;
+            }
         }
         stand.as_model(Call::Resync, &shelf)?;
         stand.as_model(Call::FullResync, &shelf)?;
@@ -167,7 +169,7 @@ fn worn_out(mut shelf: Shelf, stand: &mut Stand, random: &mut Random) -> Result<
     let m = shelf.record.measures;
     for turn in 0..24 {
         let (address, count) = if turn % 2 == 0 { (pick(m.d * m.s, random), 1) } else { ranges(m)[turn / 2 % 4] };
-        request(Call::Write { address, count }, count, &mut shelf, stand)?;
+        request(write(address, count), &mut shelf, stand)?;
         stand.hand_on(&mut shelf);
     }
     for _ in 0..3 {
@@ -192,9 +194,10 @@ fn refused(shelf: &Shelf, stand: &mut Stand) -> Result<(), String> {
     let mut shelf = with_failed(shelf, &[of_first_listed(shelf), log]);
     shelf.data = Buffer { bytes: vec![1], told: all * m.b };
     for (address, count) in [(0, all), (1, all), (all, all), (usize::MAX - all + 2, all)] {
-        stand.as_model(Call::Write { address, count }, &shelf)?;
+        stand.as_model(write(address, count), &shelf)?;
+        stand.as_model(read(address, count), &shelf)?;
         if shelf.record.listed > 0 || address > 0 {
-            stand.as_model(Call::Read { address, count }, &shelf)?;
+            stand.as_model(fetch(address, count), &shelf)?;
         }
     }
     for call in [Call::Resync, Call::FullResync] {
@@ -208,8 +211,9 @@ fn refused(shelf: &Shelf, stand: &mut Stand) -> Result<(), String> {
     for told in [all * m.b + 1, (all * m.b) as u32 as usize, all * m.b + (1 << 32), all * m.b + (1 << 63)] {
         sound.data.told = told;
         if told != all * m.b {
-            stand.as_model(Call::Write { address: 0, count: all }, &sound)?;
-            stand.as_model(Call::Read { address: 0, count: all }, &sound)?;
+            for call in [write(0, all), read(0, all), fetch(0, all)] {
+                stand.as_model(call, &sound)?;
+            }
         }
     }
     Ok(())

@@ -1,9 +1,9 @@
 //! The customer's marked examples K8 to K13 and the shelves that are wrong though they look sound, by hand.
 
-use super::calls::Call;
+use super::calls::{fetch, read, write, Call};
 use super::model::NONE as N;
 use super::script::Left::{Array, Data, List, Log, Stripe};
-use super::script::{read, write, Script, Step};
+use super::script::{Script, Step};
 use super::stand::Stand;
 use crate::Outcome;
 
@@ -14,34 +14,46 @@ const LOGGED: [Step; 3] = [
     (write(1, 1), &[7], [0, 1, 1, 2], &[], &[Array(&[1, 7, 3, 0, 9]), Log(&[2, 7, 0, 0]), List(&[N, 0, 1, 0, 1, N])]),
 ];
 
-/// K8: disks 0 and 1 gone; a read gives 1 and 7, and so does a rebuild.
-const K8: [Step; 4] = [
+/// K8: disks 0 and 1 gone; fetch gives 1 and 7, and so does a rebuild. A plain read serves block 2 alone.
+const K8: [Step; 9] = [
     (Call::Fail(0), &[], [0, 1, 1, 2], &[0], &[]),
     (Call::Fail(1), &[], [0, 1, 1, 2], &[0, 1], &[]),
-    (read(0, 2), &[99, 99], [0, 1, 1, 2], &[0, 1], &[Data(&[1, 7])]),
+    (fetch(0, 2), &[99, 99], [0, 1, 1, 2], &[0, 1], &[Data(&[1, 7])]),
+    (read(0, 2), &[99, 99], [16, 1, 1, 2], &[0, 1], &[]),
+    (read(1, 1), &[99], [16, 1, 1, 2], &[0, 1], &[]),
+    (read(1, 2), &[99, 99], [16, 1, 1, 2], &[0, 1], &[]),
+    (read(2, 1), &[99], [0, 1, 1, 2], &[0, 1], &[Data(&[3])]),
     (Call::Rebuild, &[], [0, 1, 1, 2], &[], &[Array(&[1, 7, 3, 0, 9])]),
+    (read(0, 3), &[99, 99, 99], [0, 1, 1, 2], &[], &[Data(&[1, 7, 3])]),
 ];
 
-/// K9: the log and disk 0 gone; block 0 is withheld, blocks 1 and 2 are read. Only a resync with all disks would help.
-const K9: [Step; 10] = [
+/// K9: the log and disk 0 gone; block 0 is withheld from fetch and refused to a plain read, blocks 1 and 2 are read by
+/// both. Only a resync with all disks would help.
+const K9: [Step; 14] = [
     (Call::Fail(5), &[], [0, 2, 1, 2], &[5], &[]),
     (Call::Fail(0), &[], [0, 2, 1, 2], &[0, 5], &[]),
-    (read(0, 1), &[99], [14, 2, 1, 2], &[0, 5], &[]),
+    (fetch(0, 1), &[99], [14, 2, 1, 2], &[0, 5], &[]),
+    (fetch(2, 1), &[99], [0, 2, 1, 2], &[0, 5], &[Data(&[3])]),
+    (fetch(1, 2), &[99, 99], [0, 2, 1, 2], &[0, 5], &[Data(&[7, 3])]),
+    (fetch(0, 3), &[99, 99, 99], [14, 2, 1, 2], &[0, 5], &[]),
+    (read(0, 1), &[99], [16, 2, 1, 2], &[0, 5], &[]),
     (read(2, 1), &[99], [0, 2, 1, 2], &[0, 5], &[Data(&[3])]),
     (read(1, 2), &[99, 99], [0, 2, 1, 2], &[0, 5], &[Data(&[7, 3])]),
-    (read(0, 3), &[99, 99, 99], [14, 2, 1, 2], &[0, 5], &[]),
+    (read(0, 3), &[99, 99, 99], [16, 2, 1, 2], &[0, 5], &[]),
     (Call::Rebuild, &[], [14, 2, 1, 2], &[0, 5], &[]),
     (Call::Resync, &[], [8, 2, 1, 2], &[0, 5], &[]),
     (Call::NewLog, &[], [13, 2, 1, 2], &[0, 5], &[]),
     (Call::FullResync, &[], [8, 2, 1, 2], &[0, 5], &[]),
 ];
 
-/// K8 with P or Q gone beside disk 0: block 0 comes from the other parity; the rebuild drops the list, and mode 1
-/// remains.
-const BESIDE_P: [Step; 4] = [
+/// K8 with P or Q gone beside disk 0: block 0 comes from the other parity, and a plain read serves the rest; the rebuild
+/// drops the list, and mode 1 remains.
+const BESIDE_P: [Step; 6] = [
     (Call::Fail(0), &[], [0, 1, 1, 2], &[0], &[]),
     (Call::Fail(3), &[], [0, 1, 1, 2], &[0, 3], &[]),
-    (read(0, 3), &[99, 99, 99], [0, 1, 1, 2], &[0, 3], &[Data(&[1, 7, 3])]),
+    (fetch(0, 3), &[99, 99, 99], [0, 1, 1, 2], &[0, 3], &[Data(&[1, 7, 3])]),
+    (read(0, 3), &[99, 99, 99], [16, 1, 1, 2], &[0, 3], &[]),
+    (read(1, 2), &[99, 99], [0, 1, 1, 2], &[0, 3], &[Data(&[7, 3])]),
     (Call::Rebuild, &[], [0, 1, 0, 0], &[], &[Array(&[1, 7, 3, 5, 3]), List(&[])]),
 ];
 
@@ -49,14 +61,16 @@ const BESIDE_P: [Step; 4] = [
 const BESIDE_Q: [Step; 4] = [
     (Call::Fail(4), &[], [0, 1, 1, 2], &[4], &[]),
     (Call::Fail(0), &[], [0, 1, 1, 2], &[0, 4], &[]),
-    (read(0, 1), &[99], [0, 1, 1, 2], &[0, 4], &[Data(&[1])]),
+    (fetch(0, 1), &[99], [0, 1, 1, 2], &[0, 4], &[Data(&[1])]),
     (Call::Rebuild, &[], [0, 1, 0, 0], &[], &[Array(&[1, 7, 3, 5, 3]), List(&[])]),
 ];
 
-/// K9 with P gone in place of disk 0: no data block is wanted, so the rebuild is not withheld; the log stays failed.
-const WITHOUT_LOG_AND_P: [Step; 5] = [
+/// K9 with P gone in place of disk 0: no data block is on a failed disk, so both reads serve all, and the rebuild is not
+/// withheld; the log stays failed.
+const WITHOUT_LOG_AND_P: [Step; 6] = [
     (Call::Fail(5), &[], [0, 2, 1, 2], &[5], &[]),
     (Call::Fail(3), &[], [0, 2, 1, 2], &[3, 5], &[]),
+    (fetch(0, 3), &[99, 99, 99], [0, 2, 1, 2], &[3, 5], &[Data(&[1, 7, 3])]),
     (read(0, 3), &[99, 99, 99], [0, 2, 1, 2], &[3, 5], &[Data(&[1, 7, 3])]),
     (Call::Rebuild, &[], [0, 0, 0, 0], &[5], &[Array(&[1, 7, 3, 5, 3]), List(&[])]),
     (Call::NewLog, &[], [0, 0, 0, 0], &[], &[]),
@@ -73,8 +87,8 @@ const FULLY_RESYNCED: [Step; 2] = [
 ];
 
 /// K10 and K11, with d 3 and two stripes: address 4 is stripe 1, index 1; address 5 count 1 passes, address 6 count 1
-/// is 4; and the other requests that are wrong.
-const ADDRESSES: [Step; 15] = [
+/// is 4; and the other requests that are wrong. At last disk 2 has failed: a wrong request gets 4 or 5 before 16.
+const ADDRESSES: [Step; 24] = [
     (write(4, 1), &[5], [0, 0, 0, 0], &[], &[Array(&[0, 0, 0, 5, 0, 0, 0, 5, 0, 10])]),
     (read(4, 1), &[99], [0, 0, 0, 0], &[], &[Data(&[5])]),
     (read(5, 1), &[99], [0, 0, 0, 0], &[], &[Data(&[0])]),
@@ -90,6 +104,15 @@ const ADDRESSES: [Step; 15] = [
     (read(u32::MAX as usize, 1), &[99], [4, 0, 0, 0], &[], &[]),
     (write(5, 1), &[99; 2], [5, 0, 0, 0], &[], &[]),
     (read(5, 2), &[99], [4, 0, 0, 0], &[], &[]),
+    (read(5, 1), &[99; 2], [5, 0, 0, 0], &[], &[]),
+    (fetch(5, 1), &[99], [0, 0, 0, 0], &[], &[Data(&[1])]),
+    (fetch(6, 1), &[99], [4, 0, 0, 0], &[], &[]),
+    (fetch(5, 1), &[99; 2], [5, 0, 0, 0], &[], &[]),
+    (Call::Fail(2), &[], [0, 0, 0, 0], &[2], &[]),
+    (read(5, 2), &[99; 2], [4, 0, 0, 0], &[2], &[]),
+    (read(5, 1), &[99; 2], [5, 0, 0, 0], &[2], &[]),
+    (read(5, 1), &[99], [16, 0, 0, 0], &[2], &[]),
+    (fetch(5, 1), &[99], [0, 0, 0, 0], &[2], &[Data(&[1])]),
 ];
 
 /// K12: d 3, unlisted stripe, blocks 0 and 1 written: reconstruction-write, 3 records, 3 listed.

@@ -16,6 +16,7 @@ pub mod order;
 mod pair;
 pub mod printed;
 pub mod random;
+mod reads;
 pub mod rebuilds;
 mod records;
 pub mod requests;

@@ -193,6 +193,11 @@ fn measure_faults(m: Measures) -> Faults {
     faults
 }
 
+/// Whether all measures are within their ranges.
+pub fn in_ranges(m: Measures) -> bool {
+    measure_faults(m).none()
+}
+
 /// Whether a member's flag is set; no flag is past the last one.
 pub fn failed(record: &Record, member: usize) -> bool {
     record.failed.get(member).is_some_and(|&flag| flag != 0)

@@ -2,15 +2,15 @@
 //! have the same list in whatever way it was reached, and a shelf in mode 0 whose unused places hold something is taken
 //! once its list is filled with none. The model is not asked.
 
-use super::calls::Call;
+use super::calls::{fetch, read, write, Call};
 use super::model::NONE as N;
 use super::script::Left::{Array, Data, List, Log};
-use super::script::{read, write, Script, Step};
+use super::script::{Script, Step};
 use super::stand::Stand;
 use crate::Outcome;
 
 /// Every call that tests the list gets 3, where the record has this mode, and so many blocks listed and records used.
-const fn all_refused(mode: usize, listed: usize, next: usize) -> [Step; 7] {
+const fn all_refused(mode: usize, listed: usize, next: usize) -> [Step; 8] {
     let line = [3, mode, listed, next];
     [
         (Call::Start, &[], line, &[], &[]),
@@ -18,6 +18,7 @@ const fn all_refused(mode: usize, listed: usize, next: usize) -> [Step; 7] {
         (Call::NewLog, &[], line, &[], &[]),
         (write(1, 1), &[5], line, &[], &[]),
         (read(1, 1), &[99], line, &[], &[]),
+        (fetch(1, 1), &[99], line, &[], &[]),
         (Call::Resync, &[], line, &[], &[]),
         (Call::Rebuild, &[], line, &[], &[]),
     ]
@@ -138,7 +139,7 @@ const BOTH: [u32; 18] = [0, 1, 0, N, 4, 2, 1, N, 5, 3, 2, N, 6, N, 3, N, 7, N];
 
 /// A shelf in mode 0 with blocks, then the calls that are made on it once its list is filled with none.
 const NORMAL: [Step; 1] = [(write(0, 3), &[1, 2, 3], [0, 0, 0, 0], &[], &[Array(&[1, 0, 2, 0, 3, 0, 0, 0, 9, 0])])];
-const TAKEN: [Step; 8] = [
+const TAKEN: [Step; 9] = [
     (Call::NewLog, &[], [12, 0, 0, 0], &[], &[]),
     (Call::Resync, &[], [7, 0, 0, 0], &[], &[]),
     (Call::Rebuild, &[], [12, 0, 0, 0], &[], &[]),
@@ -146,7 +147,8 @@ const TAKEN: [Step; 8] = [
     (Call::Start, &[], [0, 1, 0, 0], &[], &[]),
     (write(1, 1), &[7], [0, 1, 1, 2], &[], &[Array(&[1, 0, 7, 0, 3, 0, 0, 0, 9, 0]), Log(&[2, 7, 0, 0]), List(&ONE)]),
     (Call::Fail(0), &[], [0, 1, 1, 2], &[0], &[]),
-    (read(0, 2), &[99; 2], [0, 1, 1, 2], &[0], &[Data(&[1, 7])]),
+    (read(0, 2), &[99; 2], [16, 1, 1, 2], &[0], &[]),
+    (fetch(0, 2), &[99; 2], [0, 1, 1, 2], &[0], &[Data(&[1, 7])]),
 ];
 
 /// The lists that such a shelf has, of two slots and four places: entries that were dropped; any words in all unused

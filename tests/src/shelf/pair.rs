@@ -45,12 +45,12 @@ impl Pair {
         Ok(due)
     }
 
-    /// Fails unless the blocks that a read gave, or with which a rebuild filled the members that had failed, are the
+    /// Fails unless the blocks that either read gave, or with which a rebuild filled the members that had failed, are the
     /// book's.
     fn exact(&self, call: Call, failed: &[u8; 19], data: &[u8]) -> Result<(), String> {
         let m = self.shelf.record.measures;
         let given: Vec<(usize, &[u8])> = match call {
-            Call::Read { address, .. } => (address..).zip(data.chunks(m.b)).collect(),
+            Call::Read { address, .. } | Call::Fetch { address, .. } => (address..).zip(data.chunks(m.b)).collect(),
             Call::Rebuild => (0..m.d * m.s)
                 .map(|address| (address, address / m.d, roles::members(m, address / m.d)[address % m.d]))
                 .filter(|&(_, _, member)| failed[member] != 0)

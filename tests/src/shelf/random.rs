@@ -1,18 +1,19 @@
 //! Random shelves against the model: sound ones, ones damaged in one or two ways, and nonsense.
 
-use super::calls::{Buffer, Call, Measures, Record, Shelf};
+use super::calls::{fetch, read, write, Buffer, Call, Measures, Record, Shelf};
 use super::damage::damage_list;
 use super::layout::List;
 use super::lists::{self, pick};
-use super::model::{self, Fault, OF_LENGTHS, OF_LIST, OF_MEASURES, OF_RECORD, RANGES};
+use super::model::{self, Fault, OF_LENGTHS, OF_LIST, OF_MEASURES, OF_RECORD};
+use super::reads;
 use super::records;
 use super::requests;
 use super::stand::Stand;
-use super::tally::Tally;
+use super::tally::{Tally, CALLS};
 use crate::random::Random;
 use crate::Outcome;
 
-/// How many shelves are tried; each is lent to all nine calls.
+/// How many shelves are tried; each is lent to every call.
 const SHELVES: usize = 80_000;
 
 /// The most bytes that a buffer has which is lent whole: a little more than the longest list.
@@ -98,16 +99,10 @@ fn damaged_twice(fault: Fault, random: &mut Random) -> Result<Plan, String> {
     let mut plan = damaged(fault, random)?;
     let faults = [&OF_RECORD[..], &OF_LENGTHS][pick(2, random)];
     let second = faults[pick(faults.len(), random)];
-    if in_ranges(&plan) {
+    if model::in_ranges(plan.record.measures) {
         damage(second, &mut plan, random);
     }
     Ok(plan)
-}
-
-/// Whether all measures are within their ranges.
-fn in_ranges(plan: &Plan) -> bool {
-    let values = model::values(plan.record.measures);
-    values.into_iter().zip(RANGES).all(|(value, (low, high))| low <= value && value <= high)
 }
 
 /// A shelf with measures that are nonsense, and lengths that fit them or fit what they were. One that might be accepted
@@ -119,7 +114,7 @@ fn nonsense(random: &mut Random) -> Plan {
         if random.below(2) == 0 {
             plan.told = right(&plan);
         }
-        if !in_ranges(&plan) || right(&plan).into_iter().all(|length| length <= WHOLE) {
+        if !model::in_ranges(plan.record.measures) || right(&plan).into_iter().all(|length| length <= WHOLE) {
             return plan;
         }
     }
@@ -152,39 +147,42 @@ fn some_member(d: usize, random: &mut Random) -> usize {
     }
 }
 
-/// The nine calls in the order in which a shelf is lent to them. Those that store come last: if one of them took what
-/// it must refuse, the others would most likely have told so before it stores anything.
-fn nine_calls(m: Measures, random: &mut Random) -> [(Call, Buffer); 9] {
-    let [(read, room), (write, data)] = [false, true].map(|writes| some_request(writes, m, random));
-    let plain = |call: Call| (call, Buffer::empty());
+/// The calls in the order in which a shelf is lent to them. Those that store come last: if one of them took what it must
+/// refuse, the others would most likely have told so before it stores anything.
+fn every_call(m: Measures, random: &mut Random) -> [(Call, Buffer); CALLS] {
+    let kinds: [fn(usize, usize) -> Call; 3] = [read, fetch, write];
+    let [read, fetch, write] = kinds.map(|kind| some_request(kind, m, random));
+    let alone = |call: Call| (call, Buffer::empty());
     [
-        plain(Call::Start),
-        plain(Call::Fail(some_member(m.d, random))),
-        plain(Call::NewLog),
-        (read, room),
-        (write, data),
-        plain(Call::Resync),
-        plain(Call::Rebuild),
-        plain(Call::FullResync),
-        plain(Call::Format),
+        alone(Call::Start),
+        alone(Call::Fail(some_member(m.d, random))),
+        alone(Call::NewLog),
+        read,
+        fetch,
+        write,
+        alone(Call::Resync),
+        alone(Call::Rebuild),
+        alone(Call::FullResync),
+        alone(Call::Format),
     ]
 }
 
-/// A write or a read, with the caller's data.
-fn some_request(writes: bool, m: Measures, random: &mut Random) -> (Call, Buffer) {
+/// A request as a call of this kind, with the caller's data.
+fn some_request(kind: fn(usize, usize) -> Call, m: Measures, random: &mut Random) -> (Call, Buffer) {
     let request = requests::some(m, 6, random);
-    (request.call(writes), request.data(m, random))
+    (request.call(kind), request.data(m, random))
 }
 
-/// Lends a shelf to all nine calls, then to some one after another, all but the data being handed on.
+/// Lends a shelf to every call, then to some one after another but to format, all but the data being handed on.
 fn tried(shelf: &mut Shelf, stand: &mut Stand, tally: &mut Tally, random: &mut Random) -> Result<(), String> {
-    for (call, data) in nine_calls(shelf.record.measures, random) {
+    for (call, data) in every_call(shelf.record.measures, random) {
         shelf.data = data;
+        reads::compare(call, shelf, stand, random)?;
         tally.count(call, shelf, &stand.as_model(call, shelf)?);
     }
     for _ in 0..4 {
-        let mut calls = nine_calls(shelf.record.measures, random);
-        let (call, data) = &mut calls[pick(8, random)];
+        let mut calls = every_call(shelf.record.measures, random);
+        let (call, data) = &mut calls[pick(CALLS - 1, random)];
         std::mem::swap(&mut shelf.data, data);
         tally.count(*call, shelf, &stand.as_model(*call, shelf)?);
         stand.hand_on(shelf);

@@ -1,10 +1,10 @@
 //! Rebuilds one after another on a shelf of two stripes, by hand: where parity rotates and where it is fixed, the mode,
 //! the count of listed blocks and next after each, and what the calls after it get and do. The model is not asked.
 
-use super::calls::Call;
+use super::calls::{write, Call};
 use super::model::NONE as N;
 use super::script::Left::{Array, List, Log, Stripe};
-use super::script::{write, Script, Step};
+use super::script::{Script, Step};
 use super::stand::Stand;
 use crate::Outcome;
 

@@ -1,4 +1,5 @@
-//! Random requests: the address, the count of blocks and the length of the caller's data that a write or a read gets.
+//! Random requests: the address, the count of blocks and the length of the caller's data that a write or either read
+//! gets.
 
 use super::calls::{Buffer, Call, Measures};
 use super::lists::pick;
@@ -39,13 +40,9 @@ impl Request {
         Buffer { bytes: random.bytes(if whole { self.told } else { PART }), told: self.told }
     }
 
-    /// The request as a write or as a read.
-    pub fn call(self, writes: bool) -> Call {
-        let Request { address, count, .. } = self;
-        match writes {
-            true => Call::Write { address, count },
-            false => Call::Read { address, count },
-        }
+    /// The request as a call of this kind.
+    pub fn call(self, kind: fn(usize, usize) -> Call) -> Call {
+        kind(self.address, self.count)
     }
 }
 

@@ -1,11 +1,10 @@
 //! Rebuilds where parity rotates, by hand: which stripes have their parity made and their listed blocks dropped, which
 //! bytes and entries stay, and the mode after it. Beside it the same calls where parity is fixed.
 
-use super::calls::{Buffer, Call, Measures};
+use super::calls::{fetch, write, Buffer, Call, Measures};
 use super::layout::List as Words;
 use super::model::NONE as N;
 use super::pair::Pair;
-use super::script::{read, write};
 use super::stand::Stand;
 use crate::Outcome;
 
@@ -208,15 +207,15 @@ fn holds(pair: &Pair, stripes: &[Stripe; 5]) -> Result<(), String> {
     Ok(())
 }
 
-/// Fails unless each block reads as last written with any further members failed and overwritten, two in all with the
-/// log. Where the log failed nothing may be stale.
+/// Fails unless fetch gives each block as last written with any further members failed and overwritten, two in all with
+/// the log. Where the log failed nothing may be stale.
 fn serves(pair: &Pair, stand: &mut Stand) -> Result<(), String> {
     let without_log = pair.shelf.record.failed[LOG] != 0;
     for (x, y) in (0..5).flat_map(|x| (x..5).map(move |y| (x, y))).filter(|&(x, y)| x == y || !without_log) {
         let mut pair = pair.clone();
         fail(&mut pair, &[x, y][..if x == y { 1 } else { 2 }], stand)?;
         for address in 0..15 {
-            let code = pair.step(read(address, 1), Buffer::of(vec![231]), stand)?;
+            let code = pair.step(fetch(address, 1), Buffer::of(vec![231]), stand)?;
             if code != 0 {
                 return Err(format!("block {address} is refused with {code}; the shelf: {}", pair.shelf));
             }

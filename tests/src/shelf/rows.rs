@@ -1,13 +1,12 @@
-//! Where the blocks of a stripe stand where parity rotates, by rows of members worked out by hand; a shelf beside its
-//! twin whose parity is fixed; and layouts that are neither.
+//! Where the blocks of a stripe stand where parity rotates, by rows of members worked out by hand; which plain reads they
+//! refuse with a member failed; a shelf beside its twin whose parity is fixed; and layouts that are neither.
 
 use super::book::Book;
-use super::calls::{Buffer, Call, Measures, Shelf};
+use super::calls::{fetch, read, write, Buffer, Call, Measures, Shelf};
 use super::due::Due;
 use super::lists::pick;
 use super::pair::Pair;
 use super::roles;
-use super::script::{read, write};
 use super::sequences::next_call;
 use super::stand::Stand;
 use crate::random::Random;
@@ -99,6 +98,38 @@ fn known(d: usize, rows: &[&[usize]], random: &mut Random) -> Result<(), String>
     Ok(())
 }
 
+/// Fails unless plain reads of one, two and d + 1 blocks from each address on get 16 where the row of a stripe has a
+/// failed member in the place of a block that is asked for, and else give what was written.
+fn read_by_rows(shelf: &mut Shelf, rows: &[&[usize]], written: &[u8], stand: &mut Stand) -> Result<(), String> {
+    let (Measures { d, b, .. }, failed) = (shelf.record.measures, shelf.record.failed);
+    let total = d * rows.len();
+    for (address, most) in (0..total).flat_map(|address| [1, 2, d + 1].map(|most| (address, most))) {
+        let asked = address..(address + most).min(total);
+        let is_lost = asked.clone().any(|block| failed[rows[block / d][block % d]] != 0);
+        let call = read(address, asked.len());
+        shelf.data = Buffer::of(vec![231; asked.len() * b]);
+        let mut due = Due::nothing(call, shelf, if is_lost { 16 } else { 0 });
+        due.data = (!is_lost).then(|| written[address * b..asked.end * b].to_vec());
+        stand.expect(call, shelf, &due)?;
+    }
+    Ok(())
+}
+
+/// Makes these reads on a shelf of this layout with each pair of members failed, the log among them, where parity is not
+/// stale.
+fn plain_reads(layout: usize, rows: &[&[usize]], stand: &mut Stand, random: &mut Random) -> Result<(), String> {
+    let (d, s) = (rows[0].len() - 2, rows.len());
+    let mut pair = Pair::fresh(measures(d, s, layout, random), 99, stand)?;
+    let written = random.bytes(d * s * pair.shelf.record.measures.b);
+    pair.step(write(0, d * s), Buffer::of(written.clone()), stand)?;
+    for (x, y) in (0..d + 2).flat_map(|x| (x + 1..d + 3).map(move |y| (x, y))) {
+        let mut shelf = pair.shelf.clone();
+        (shelf.record.failed[x], shelf.record.failed[y]) = (1, 1);
+        read_by_rows(&mut shelf, rows, &written, stand)?;
+    }
+    Ok(())
+}
+
 /// Two shelves that get the same calls, and the rows that lead from the one whose parity is fixed to the one where it
 /// rotates.
 struct Twins<'a> {
@@ -184,10 +215,14 @@ fn twins(d: usize, rows: &[&[usize]], stand: &mut Stand, random: &mut Random) ->
     Ok(rebuilds)
 }
 
-/// Holds the rows of a table to the model, to the book, and to shelves beside their twins. Hands back how many rebuilds
-/// the twins of one stripe came through.
+/// Holds the rows of a table to the model, to the book, to plain reads with members failed, and to shelves beside their
+/// twins. The rows of the fixed layout are the members in order. Hands back how many rebuilds the twins of one stripe
+/// came through.
 fn table(d: usize, rows: &[&[usize]], stand: &mut Stand, random: &mut Random) -> Result<usize, String> {
     known(d, rows, random)?;
+    let in_order: Vec<usize> = (0..d + 2).collect();
+    plain_reads(0, &vec![&in_order[..]; rows.len()], stand, random)?;
+    plain_reads(1, rows, stand, random)?;
     let mut rebuilds = 0;
     for _ in 0..PAIRS {
         twins(d, rows, stand, random)?;
@@ -207,12 +242,13 @@ fn shelves(stand: &mut Stand) -> Result<Vec<(Shelf, Vec<Call>)>, String> {
         let mut pair = fresh.clone();
         pair.step(call, Buffer::empty(), stand).map(|_| pair.shelf)
     };
-    let plain = vec![Call::Format, Call::Start, Call::Fail(0), write(1, 1), read(2, 1), Call::FullResync];
+    let on_fresh =
+        vec![Call::Format, Call::Start, Call::Fail(0), write(1, 1), read(2, 1), fetch(2, 1), Call::FullResync];
     let started = after(Call::Start, stand)?;
     let without = [after(Call::Fail(1), stand)?, after(Call::Fail(4), stand)?];
     let [failed, without_log] = without;
     Ok(vec![
-        (fresh.shelf.clone(), plain),
+        (fresh.shelf.clone(), on_fresh),
         (started, vec![Call::Resync]),
         (failed, vec![Call::Rebuild]),
         (without_log, vec![Call::NewLog]),
@@ -247,8 +283,9 @@ pub fn group(seed: u64) -> Outcome {
     rebuilds += table(5, &OF_FIVE.each_ref().map(|row| &row[..]), stand, random)?;
     neither(stand)?;
     Ok(format!(
-        "{} and {} rows by hand, as the model, the book and {} shelves beside their twins have them; {rebuilds} \
-         rebuilds of twins; {} layouts that are neither, refused by every call; {} calls; seed {seed}",
+        "{} and {} rows by hand, as the model, the book, plain reads with each pair of members failed and {} shelves \
+         beside their twins have them; {rebuilds} rebuilds of twins; {} layouts that are neither, refused by every \
+         call; {} calls; seed {seed}",
         OF_TWO.len(),
         OF_FIVE.len(),
         4 * PAIRS,

@@ -20,16 +20,6 @@ pub enum Left {
 /// failed, and what is left.
 pub type Step = (Call, &'static [u8], [usize; 4], &'static [usize], &'static [Left]);
 
-/// A write and a read of some blocks.
-pub const fn write(address: usize, count: usize) -> Call {
-    Call::Write { address, count }
-}
-
-/// The same for a read.
-pub const fn read(address: usize, count: usize) -> Call {
-    Call::Read { address, count }
-}
-
 /// The flags of these members.
 fn flags(members: &[usize]) -> [u8; 19] {
     let mut flags = [0; 19];

@@ -1,16 +1,20 @@
 //! Random sequences of calls from a fresh shelf, against the model and against the book. Each call gets the record and
 //! the buffers as the one before left them, save that the bytes of failed members change at will. Now and then the list
-//! is arranged in another way that says the same: the call is first made on that list, and must be refused with 3.
+//! is arranged in another way that says the same: the call is first made on that list, and must be refused with 3. Each
+//! plain read is made beside a recovering one too.
 
 use super::book::Book;
-use super::calls::{Buffer, Call, Measures, Record, Shelf};
+use super::calls::{fetch, read, write, Buffer, Call, Measures, Record, Shelf};
 use super::layout::List;
 use super::lists::{self, one_of, pick};
+use super::model::NONE;
 use super::pair::Pair;
+use super::reads;
 use super::records;
 use super::requests::{self, Request};
+use super::roles;
 use super::stand::Stand;
-use super::tally;
+use super::tally::{self, CALLS, CODES};
 use crate::random::Random;
 use crate::Outcome;
 
@@ -63,25 +67,30 @@ fn member(m: Measures, random: &mut Random) -> usize {
     }
 }
 
-/// How often each call is made in the record's condition: start, fail, new log, write, read, resync, rebuild, full
-/// resync. A busy shelf has few failures, a poor one many.
-fn weights(r: &Record, busy: bool) -> [u64; 8] {
+/// How often each call is made in the record's condition: start, fail, new log, write, read, fetch, resync, rebuild,
+/// full resync. A busy shelf has few failures, a poor one many.
+fn weights(r: &Record, busy: bool) -> [u64; 9] {
     let array_failed = r.failed[..r.measures.d + 2].contains(&1);
     let fails = if busy { 1 } else { 6 };
     match (array_failed, r.mode) {
-        (true, _) => [1, 4, 2, 2, 14, 1, if busy { 8 } else { 3 }, 1],
-        (false, 0) => [14, fails, if r.failed.contains(&1) { 8 } else { 1 }, 6, 4, 1, 1, 1],
-        (false, 1) => [1, fails, 1, 24, 6, if busy { 1 } else { 2 }, 1, u64::from(!busy)],
-        (false, _) => [1, fails, 1, 5, 5, 5, 1, 1],
+        (true, _) => [1, 4, 2, 2, 14, 14, 1, if busy { 8 } else { 3 }, 1],
+        (false, 0) => [14, fails, if r.failed.contains(&1) { 8 } else { 1 }, 6, 3, 3, 1, 1, 1],
+        (false, 1) => [1, fails, 1, 24, 3, 4, if busy { 1 } else { 2 }, 1, u64::from(!busy)],
+        (false, _) => [1, fails, 1, 5, 4, 4, 5, 1, 1],
     }
 }
 
-/// A request: anywhere and at times wrong, or right in a stripe with a listed block.
+/// A request: anywhere and at times wrong; right in a stripe with a listed block; or right at a block on a failed member
+/// that is listed with an Ori only.
 fn request(shelf: &Shelf, random: &mut Random) -> Request {
     let m = shelf.record.measures;
-    let listed: Vec<usize> = List::of(m, &shelf.list.bytes).entries().into_keys().collect();
-    match one_of(&listed, random) {
-        Some(address) if random.below(3) == 0 => requests::at(address / m.d * m.d + pick(m.d, random), m, random),
+    let entries = List::of(m, &shelf.list.bytes).entries();
+    let is_lost = |address: usize| shelf.record.failed[roles::members(m, address / m.d)[address % m.d]] != 0;
+    let listed: Vec<usize> = entries.keys().copied().collect();
+    let in_ori: Vec<usize> = listed.iter().copied().filter(|at| entries[at][1] == NONE && is_lost(*at)).collect();
+    match (one_of(&in_ori, random), one_of(&listed, random)) {
+        (Some(address), _) if random.below(3) == 0 => requests::at(address, m, random),
+        (_, Some(address)) if random.below(3) == 0 => requests::at(address / m.d * m.d + pick(m.d, random), m, random),
         _ => requests::some(m, 1, random),
     }
 }
@@ -94,16 +103,17 @@ pub fn next_call(shelf: &Shelf, busy: bool, random: &mut Random) -> (Call, Buffe
         left -= weights[at];
         at += 1;
     }
+    let kinds: [fn(usize, usize) -> Call; 3] = [write, read, fetch];
     let call = match at {
         0 => Call::Start,
         1 => Call::Fail(member(m, random)),
         2 => Call::NewLog,
-        3 | 4 => {
+        3..=5 => {
             let request = request(shelf, random);
-            return (request.call(at == 3), request.data(m, random));
+            return (request.call(kinds[at - 3]), request.data(m, random));
         }
-        5 => Call::Resync,
-        6 => Call::Rebuild,
+        6 => Call::Resync,
+        7 => Call::Rebuild,
         _ => Call::FullResync,
     };
     (call, Buffer::empty())
@@ -165,14 +175,14 @@ fn resynced(pair: &mut Pair, stand: &mut Stand) -> Result<(), String> {
     Ok(())
 }
 
-/// What the sequences of a layout came through: the calls by number, how many rebuilds and reads were withheld, and how
-/// many calls of each kind were refused for the arrangement of the list.
+/// What the sequences of a layout came through: the calls by number, how many fetches and rebuilds were withheld, and
+/// how many calls of each kind were refused for the arrangement of the list.
 #[derive(Default)]
 struct Counts {
     accepted: usize,
-    given: [usize; 15],
+    given: [usize; CODES],
     withheld: [usize; 2],
-    rearranged: [usize; 9],
+    rearranged: [usize; CALLS],
 }
 
 impl Counts {
@@ -188,19 +198,21 @@ impl Counts {
         self.rearranged[tally::index(call)] += usize::from(code == Some(3));
     }
 
-    /// Fails unless numbers 4 to 14 were each given so many times, 14 by read and by rebuild, and 3 by each call that
-    /// tests the list.
+    /// Fails unless each number from 4 on that a call can answer was given so many times, 14 by fetch and by rebuild,
+    /// and 3 by each call that tests the list.
     fn complete(&self, at_least: usize) -> Result<(), String> {
-        if let Some(call) = (1..8).find(|&call| self.rearranged[call] < at_least) {
+        let tests_list = |call: usize| tally::answers(call, 3);
+        if let Some(call) = (0..CALLS).find(|&call| tests_list(call) && self.rearranged[call] < at_least) {
             let (name, count) = (tally::name(call), self.rearranged[call]);
             return Err(format!("{name} was refused {count} times for the arrangement of the list, not {at_least}"));
         }
-        if let Some(code) = (4..15).find(|&code| self.given[code] < at_least) {
+        let can_be = |code: usize| (0..CALLS).any(|call| tally::answers(call, code));
+        if let Some(code) = (4..CODES).find(|&code| can_be(code) && self.given[code] < at_least) {
             return Err(format!("{code} was given {} times, not {at_least}", self.given[code]));
         }
         match self.withheld.iter().all(|&count| count >= at_least) {
             true => Ok(()),
-            false => Err(format!("of read and rebuild {:?} were withheld, not {at_least}", self.withheld)),
+            false => Err(format!("of fetch and rebuild {:?} were withheld, not {at_least}", self.withheld)),
         }
     }
 }
@@ -214,10 +226,11 @@ fn sequence(stand: &mut Stand, counts: &mut [Counts; 2], random: &mut Random) ->
     for _ in 0..pick(LONGEST, random) {
         garble(&mut pair.shelf, random);
         let (call, mut data) = next_call(&pair.shelf, is_busy, random);
+        pair.shelf.data = data.clone();
         if random.below(4) == 0 {
-            pair.shelf.data = data.clone();
             counts.count_rearranged(call, rearranged(call, &pair.shelf, stand, random)?);
         }
+        reads::compare(call, &pair.shelf, stand, random)?;
         if random.below(8) == 0 {
             same_again(call, &pair.book, &mut data);
         }
@@ -245,11 +258,12 @@ pub fn group(seed: u64) -> Outcome {
     let sum = |of: fn(&Counts) -> usize| counts.iter().map(of).sum::<usize>();
     let least = stand.seen.complete(20)?;
     Ok(format!(
-        "{} calls in {SEQUENCES} sequences of both layouts as the model and the book have them, {} accepted, {} reads \
-         and {} rebuilds withheld, {} refused for the arrangement of the list; each way of their work {least} times at \
-         least; seed {seed}",
+        "{} calls in {SEQUENCES} sequences of both layouts as the model and the book have them, {} accepted, {} plain \
+         reads of lost blocks refused, {} fetches and {} rebuilds withheld, {} refused for the arrangement of the list; \
+         each plain read as it goes with a fetch; each way of their work {least} times at least; seed {seed}",
         stand.calls,
         sum(|counts| counts.accepted),
+        sum(|counts| counts.given[16]),
         sum(|counts| counts.withheld[0]),
         sum(|counts| counts.withheld[1]),
         sum(|counts| counts.rearranged.iter().sum())

@@ -1,7 +1,7 @@
 //! A stand on which calls are made: on copies of the buffers with guard bytes on both sides. The number, the record
 //! handed back and all buffers, the caller's data included, are compared with what is due.
 
-use super::calls::{Call, Record, Shelf};
+use super::calls::{Answered, Call, Record, Shelf};
 use super::due::Due;
 use super::events::Seen;
 use super::model;
@@ -79,7 +79,7 @@ pub struct Stand {
 
 impl Stand {
     /// Makes a call; what it leaves of the buffers stays in the rooms.
-    fn made(&mut self, call: Call, shelf: &Shelf) -> (usize, Option<usize>, Record) {
+    fn made(&mut self, call: Call, shelf: &Shelf) -> Answered {
         self.calls += 1;
         self.array.take(&shelf.array.bytes, self.calls % 16);
         self.log.take(&shelf.log.bytes, self.calls / 16 % 16);
@@ -106,7 +106,23 @@ impl Stand {
 
     /// Fails unless a call answers and leaves what is due.
     pub fn expect(&mut self, call: Call, shelf: &Shelf, due: &Due) -> Result<(), String> {
-        let (code, stripe, record) = self.made(call, shelf);
+        let answer = self.made(call, shelf);
+        self.compare(call, shelf, answer, due)
+    }
+
+    /// Makes a read; hands back its number and the caller's data after it. Fails if it stores anything but that data,
+    /// stores that where it is refused, or hands back another record.
+    pub fn read(&mut self, call: Call, shelf: &Shelf) -> Result<(usize, Vec<u8>), String> {
+        let answer = self.made(call, shelf);
+        let mut due = Due::nothing(call, shelf, answer.0);
+        due.data = (answer.0 == 0).then(|| self.data().to_vec());
+        self.compare(call, shelf, answer, &due)?;
+        Ok((answer.0, self.data().to_vec()))
+    }
+
+    /// Fails unless what a call answered and what it left in the rooms are what is due.
+    fn compare(&self, call: Call, shelf: &Shelf, answer: Answered, due: &Due) -> Result<(), String> {
+        let (code, stripe, record) = answer;
         let fault = |what: String| Err(format!("{call:?} {what}; the shelf: {shelf}"));
         if code != due.code {
             return fault(format!("answers {code}, not {}", due.code));

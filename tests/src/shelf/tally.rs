@@ -4,14 +4,19 @@
 use super::calls::{Call, Shelf};
 use super::model::{Fault, Findings, OF_LENGTHS, OF_LIST, OF_MEASURES, OF_RECORD};
 
+/// How many calls there are, and numbers from 0 to the last one that a call answers.
+pub const CALLS: usize = 10;
+pub const CODES: usize = 17;
+
 /// The calls by name, with the numbers that each can answer beside 0.
-const NUMBERS: [(&str, &[usize]); 9] = [
+const NUMBERS: [(&str, &[usize]); CALLS] = [
     ("format", &[1, 2]),
     ("start", &[1, 2, 3, 7, 8, 9]),
     ("fail", &[1, 2, 3, 6, 10, 11]),
     ("new log", &[1, 2, 3, 12, 13]),
     ("write", &[1, 2, 3, 4, 5, 8]),
-    ("read", &[1, 2, 3, 4, 5, 14]),
+    ("read", &[1, 2, 3, 4, 5, 16]),
+    ("fetch", &[1, 2, 3, 4, 5, 14]),
     ("resync", &[1, 2, 3, 7, 8]),
     ("rebuild", &[1, 2, 3, 12, 14]),
     ("full resync", &[1, 2, 8]),
@@ -36,8 +41,8 @@ fn looks_for(name: &str, faults: &[Fault]) -> bool {
 
 /// Counts for each call: by the number answered and another that applied too (itself where none did), and by fault.
 struct Counts {
-    numbers: [[[usize; 15]; 15]; 9],
-    alone: [[usize; 64]; 9],
+    numbers: [[[usize; CODES]; CODES]; CALLS],
+    alone: [[usize; 64]; CALLS],
 }
 
 /// The counts of the shelves whose parity is fixed, of those where it rotates, and of those whose layout is neither.
@@ -52,9 +57,10 @@ pub fn index(call: Call) -> usize {
         Call::NewLog => 3,
         Call::Write { .. } => 4,
         Call::Read { .. } => 5,
-        Call::Resync => 6,
-        Call::Rebuild => 7,
-        Call::FullResync => 8,
+        Call::Fetch { .. } => 6,
+        Call::Resync => 7,
+        Call::Rebuild => 8,
+        Call::FullResync => 9,
     }
 }
 
@@ -63,10 +69,15 @@ pub fn name(index: usize) -> &'static str {
     NUMBERS[index].0
 }
 
+/// Whether the call that has this index can answer this number.
+pub fn answers(index: usize, code: usize) -> bool {
+    NUMBERS[index].1.contains(&code)
+}
+
 impl Tally {
     /// Counts of nothing so far.
     pub fn new() -> Tally {
-        Tally([(); 3].map(|_| Counts { numbers: [[[0; 15]; 15]; 9], alone: [[0; 64]; 9] }))
+        Tally([(); 3].map(|_| Counts { numbers: [[[0; CODES]; CODES]; CALLS], alone: [[0; 64]; CALLS] }))
     }
 
     /// Counts a case.
@@ -74,9 +85,9 @@ impl Tally {
         self.0[shelf.record.measures.layout.min(2)].count(index(call), found);
     }
 
-    /// Fails unless, in either layout, every call answered 0 and each of its numbers, each number was the first where
-    /// each later one applied too, and each fault was the only one of its row. A layout that is neither was the only
-    /// fault of its row too. Hands back the least count of a fault.
+    /// Fails unless, in either layout, every call answered 0 and each of its numbers, and no other, each number was the
+    /// first where each later one applied too, and each fault was the only one of its row. A layout that is neither was
+    /// the only fault of its row too. Hands back the least count of a fault.
     pub fn complete(&self) -> Result<usize, String> {
         let [fixed, rotating, neither] = &self.0;
         let mut least = usize::MAX;
@@ -96,7 +107,7 @@ impl Counts {
         if others == 0 {
             self.numbers[call][code][code] += 1;
         }
-        for other in (0..15).filter(|&other| others >> other & 1 == 1) {
+        for other in (0..CODES).filter(|&other| others >> other & 1 == 1) {
             self.numbers[call][code][other] += 1;
         }
         for (_, faults) in FAULTS.iter().filter(|(row, _)| *row == code) {
@@ -106,10 +117,14 @@ impl Counts {
         }
     }
 
-    /// Fails unless every call answered 0 and each of its numbers, and each number was the first where each later one
-    /// applied too.
+    /// Fails unless every call answered 0 and each of its numbers, and no other, and each number was the first where each
+    /// later one applied too.
     fn numbers(&self) -> Result<(), String> {
         for (call, (name, numbers)) in NUMBERS.iter().enumerate() {
+            let is_other = |code: &usize| !answers(call, *code) && self.numbers[call][*code] != [0; CODES];
+            if let Some(code) = (1..CODES).find(is_other) {
+                return Err(format!("{name} answered {code}, which is none of its numbers"));
+            }
             for &code in [0].iter().chain(*numbers) {
                 let meets = |other: usize| other > code && code > 0 && !APART.contains(&(name, code, other));
                 let later = numbers.iter().filter(|&&other| meets(other));

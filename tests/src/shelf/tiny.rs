@@ -2,7 +2,7 @@
 //! call on those that are sound, in both layouts; and every choice of layout, d, mode, failed members and call, with
 //! every member to fail.
 
-use super::calls::{Buffer, Call, Measures, Record, Shelf};
+use super::calls::{fetch, read, write, Buffer, Call, Measures, Record, Shelf};
 use super::lists::pick;
 use super::model::NONE;
 use super::stand::Stand;
@@ -43,24 +43,20 @@ fn next_list(digits: &mut [usize], choices: &[&[u32]], list: &mut [u8]) -> bool 
 
 /// The calls that test the list. One of them is made on every list, and all on those that have one fault only; full
 /// resync, which takes any list, is made on every one too.
-const TESTING: [Call; 7] = [
-    Call::Start,
-    Call::Fail(1),
-    Call::NewLog,
-    Call::Write { address: 0, count: 1 },
-    Call::Read { address: 1, count: 1 },
-    Call::Resync,
-    Call::Rebuild,
-];
+const TESTING: [Call; 8] =
+    [Call::Start, Call::Fail(1), Call::NewLog, write(0, 1), read(1, 1), fetch(1, 1), Call::Resync, Call::Rebuild];
 
 /// The calls that are made on every sound list, with each set of failed members.
-const ON_SOUND: [Call; 8] = [
-    Call::Write { address: 0, count: 1 },
-    Call::Write { address: 1, count: 1 },
-    Call::Write { address: 0, count: 2 },
-    Call::Read { address: 0, count: 1 },
-    Call::Read { address: 1, count: 1 },
-    Call::Read { address: 0, count: 2 },
+const ON_SOUND: [Call; 11] = [
+    write(0, 1),
+    write(1, 1),
+    write(0, 2),
+    read(0, 1),
+    read(1, 1),
+    read(0, 2),
+    fetch(0, 1),
+    fetch(1, 1),
+    fetch(0, 2),
     Call::Rebuild,
     Call::Resync,
 ];
@@ -100,7 +96,7 @@ fn all_lists(h: usize, stand: &mut Stand, random: &mut Random) -> Result<(), Str
         for (mode, next, listed) in [(0, 0, 0), (1, 1, 1), (2, 1, 2)] {
             (shelf.record.mode, shelf.record.next, shelf.record.listed) = (mode, next, listed);
             shelf.record.measures.layout = pick(2, random);
-            match stand.as_model(TESTING[pick(7, random)], &shelf)?.faults[2].count() {
+            match stand.as_model(TESTING[pick(TESTING.len(), random)], &shelf)?.faults[2].count() {
                 0 => {
                     passed += 1;
                     sound_list(&shelf, stand)?;
@@ -128,10 +124,7 @@ fn sound_list(shelf: &Shelf, stand: &mut Stand) -> Result<(), String> {
         shelf.record.measures.layout = layout;
         shelf.record.failed = [0; 19];
         failed.iter().for_each(|&member| shelf.record.failed[member] = 1);
-        let (Call::Write { count, .. } | Call::Read { count, .. }) = call else {
-            stand.as_model(call, &shelf)?;
-            continue;
-        };
+        let (_, count) = call.blocks().unwrap_or((0, 0));
         shelf.data = Buffer::of([33, 44][..count].to_vec());
         stand.as_model(call, &shelf)?;
     }
@@ -187,9 +180,8 @@ fn every_call(shelf: &Shelf, stand: &mut Stand) -> Result<(), String> {
     for call in [Call::NewLog, Call::Resync, Call::Rebuild, Call::FullResync] {
         stand.as_model(call, shelf)?;
     }
-    for address in [0, last] {
-        stand.as_model(Call::Read { address, count: 1 }, shelf)?;
-        stand.as_model(Call::Write { address, count: 1 }, shelf)?;
+    for call in [0, last].into_iter().flat_map(|address| [read(address, 1), fetch(address, 1), write(address, 1)]) {
+        stand.as_model(call, shelf)?;
     }
     if started == 1 {
         stand.as_model(Call::Fail(shelf.record.mode), shelf)?;

@@ -4,7 +4,7 @@
 use std::collections::{HashMap, HashSet, VecDeque};
 
 use super::book::Book;
-use super::calls::{Buffer, Call, Measures, Record};
+use super::calls::{fetch, read, write, Buffer, Call, Measures, Record};
 use super::layout::{Entries, List};
 use super::pair::Pair;
 use super::stand::Stand;
@@ -33,7 +33,8 @@ const MOST: usize = 2_500;
 /// What tells two shelves apart: the record's mode, next and flags, array, log, list, the book's blocks.
 type Key = ([usize; 2], [u8; 19], Vec<u8>, Vec<u8>, Vec<u8>, Vec<u8>);
 
-/// The calls that are made: each member fails; each block alone, each stripe and all blocks are written and read.
+/// The calls that are made: each member fails; each block alone, each stripe and all blocks are written, and read by both
+/// reads.
 fn calls(m: Measures) -> Vec<Call> {
     let blocks = m.d * m.s;
     let mut calls = vec![Call::Start, Call::NewLog, Call::Resync, Call::Rebuild, Call::FullResync];
@@ -41,7 +42,7 @@ fn calls(m: Measures) -> Vec<Call> {
     let single = (0..blocks).map(|address| (address, 1));
     let ranges = single.chain((0..m.s).map(|stripe| (stripe * m.d, m.d))).chain([(0, blocks - 1), (1, blocks - 1)]);
     for (address, count) in ranges.chain((m.s > 1).then_some((0, blocks))) {
-        calls.extend([Call::Write { address, count }, Call::Read { address, count }]);
+        calls.extend([write(address, count), read(address, count), fetch(address, count)]);
     }
     calls
 }
@@ -58,7 +59,7 @@ fn data(call: Call, book: &Book) -> Vec<u8> {
     };
     match call {
         Call::Write { address, count } => (address..address + count).map(value).collect(),
-        Call::Read { count, .. } => vec![231; count],
+        Call::Read { count, .. } | Call::Fetch { count, .. } => vec![231; count],
         _ => Vec::new(),
     }
 }

@@ -3,30 +3,28 @@
 use std::collections::BTreeSet;
 use std::ops::Range;
 
-use super::calls::{Call, Measures, Record, Shelf};
+use super::calls::{fetch, Call, Measures, Record, Shelf};
 use super::due::Due;
 use super::events::{Event, Events};
 use super::layout::{Entries, List};
-use super::model::NONE;
+use super::model::{findings, NONE};
 use super::roles;
 use crate::model::{made, recovered};
 
-/// What is due of a call that is answered with this number, and the ways in which its work is done.
+/// What is due of a call that is answered with this number, and the ways in which its work is done or a plain read is
+/// refused.
 pub fn outcome(call: Call, shelf: &Shelf, code: usize) -> (Due, Events) {
     let mut due = Due::nothing(call, shelf, code);
     let mut events = Events::default();
-    if code != 0 {
-        return (due, events);
-    }
     match call {
+        Call::Read { address, count } if code == 16 => events = lost(shelf, address, count),
+        _ if code != 0 => {}
         Call::Format => format(shelf, &mut due),
         Call::Start => due.record.mode = 1,
         Call::Fail(member) => due.record = failed(shelf.record, member),
         Call::NewLog => due.record.failed[shelf.record.measures.d + 2] = 0,
-        Call::Read { address, count } => {
-            let sight = Sight::of(shelf);
-            due.data = Some((address..address + count).flat_map(|block| sight.block(block, &mut events)).collect());
-        }
+        Call::Read { address, count } => due.data = Some(read(shelf, address..address + count, &mut events)),
+        Call::Fetch { address, count } => due.data = Some(fetched(shelf, address..address + count, &mut events)),
         Call::Write { .. } | Call::Resync | Call::Rebuild | Call::FullResync => {
             let mut work = Work::of(call, shelf);
             work.done(call, shelf, &mut due);
@@ -55,13 +53,52 @@ fn failed(given: Record, member: usize) -> Record {
     after
 }
 
+/// The blocks as they stand in the array: all are on sound members.
+fn read(shelf: &Shelf, addresses: Range<usize>, events: &mut Events) -> Vec<u8> {
+    let (sight, Measures { d, .. }) = (Sight::of(shelf), shelf.record.measures);
+    let array_failed = (0..d + 2).any(|member| sight.is_failed(member));
+    let of_stripes = addresses.start / d * d..addresses.end.div_ceil(d) * d;
+    events.add(Event::ReadSound, !array_failed);
+    events.add(Event::ReadBesideFailed, array_failed);
+    events.add(Event::ReadStaleWithoutLog, sight.is_failed(d + 2) && sight.entries.range(of_stripes).count() > 0);
+    addresses.flat_map(|address| sight.stored(sight.member(address), address / d)).copied().collect()
+}
+
+/// The ways in which a plain read is refused for a block on a failed member: where a recovering read of the same blocks
+/// takes it from, or that this one is withheld.
+fn lost(shelf: &Shelf, address: usize, count: usize) -> Events {
+    let (sight, mut events) = (Sight::of(shelf), Events::default());
+    let is_withheld = findings(fetch(address, count), shelf).code() == 14;
+    events.add(Event::ReadLostAndWithheld, is_withheld);
+    for source in (address..address + count).map(|address| sight.source(address)).filter(|_| !is_withheld) {
+        events.add(Event::ReadLostInCur, matches!(source, Source::Cur(_)));
+        events.add(Event::ReadLostInOri, matches!(source, Source::Ori(_)));
+        events.add(Event::ReadLostByParity, matches!(source, Source::Parity));
+    }
+    events
+}
+
+/// The blocks by a recovering read.
+fn fetched(shelf: &Shelf, addresses: Range<usize>, events: &mut Events) -> Vec<u8> {
+    let sight = Sight::of(shelf);
+    addresses.flat_map(|address| sight.block(address, events)).collect()
+}
+
 /// Where the block of a member in a stripe stands in the array.
 fn place(m: Measures, member: usize, stripe: usize) -> Range<usize> {
     let first = (member * m.s + stripe) * m.b;
     first..first + m.b
 }
 
-/// A shelf as read sees it.
+/// Where a recovering read takes a block from: its member, a record of the log, or parity.
+enum Source {
+    Member,
+    Cur(u32),
+    Ori(u32),
+    Parity,
+}
+
+/// A shelf as both reads see it.
 struct Sight<'a> {
     shelf: &'a Shelf,
     entries: Entries,
@@ -78,6 +115,12 @@ impl Sight<'_> {
         self.shelf.record.failed[member] != 0
     }
 
+    /// The member that has a block.
+    fn member(&self, address: usize) -> usize {
+        let m = self.shelf.record.measures;
+        roles::members(m, address / m.d)[address % m.d]
+    }
+
     /// The bytes of a member's block in a stripe.
     fn stored(&self, member: usize, stripe: usize) -> &[u8] {
         &self.shelf.array.bytes[place(self.shelf.record.measures, member, stripe)]
@@ -89,23 +132,29 @@ impl Sight<'_> {
         &self.shelf.log.bytes[record as usize * b..][..b]
     }
 
-    /// What read gives of a block: its bytes, or from Cur, else from Ori, else worked back by parity.
-    fn block(&self, address: usize, events: &mut Events) -> Vec<u8> {
-        let m = self.shelf.record.measures;
-        let (stripe, entry) = (address / m.d, self.entries.get(&address));
-        let member = roles::members(m, stripe)[address % m.d];
-        if !self.is_failed(member) {
-            events.add(Event::ReadSound, entry.is_none());
-            events.add(Event::ReadSoundListed, entry.is_some());
-            return self.stored(member, stripe).to_vec();
+    /// Where a recovering read takes a block from: a failed member's from Cur, else from Ori, else from parity.
+    fn source(&self, address: usize) -> Source {
+        match self.entries.get(&address) {
+            _ if !self.is_failed(self.member(address)) => Source::Member,
+            Some(&[ori, NONE]) => Source::Ori(ori),
+            Some(&[_, cur]) => Source::Cur(cur),
+            None => Source::Parity,
         }
-        events.add(Event::ReadWithoutLog, self.is_failed(m.d + 2));
-        events.add(Event::ReadCur, entry.is_some_and(|&[_, cur]| cur != NONE));
-        events.add(Event::ReadOri, entry.is_some_and(|&[_, cur]| cur == NONE));
-        match entry {
-            Some(&[ori, NONE]) => self.logged(ori).to_vec(),
-            Some(&[_, cur]) => self.logged(cur).to_vec(),
-            None => self.worked_back(address, events),
+    }
+
+    /// What a recovering read gives of a block.
+    fn block(&self, address: usize, events: &mut Events) -> Vec<u8> {
+        let (d, source) = (self.shelf.record.measures.d, self.source(address));
+        let (is_member, is_listed) = (matches!(source, Source::Member), self.entries.contains_key(&address));
+        events.add(Event::FetchSound, is_member && !is_listed);
+        events.add(Event::FetchSoundListed, is_member && is_listed);
+        events.add(Event::FetchWithoutLog, !is_member && self.is_failed(d + 2));
+        events.add(Event::FetchCur, matches!(source, Source::Cur(_)));
+        events.add(Event::FetchOri, matches!(source, Source::Ori(_)));
+        match source {
+            Source::Member => self.stored(self.member(address), address / d).to_vec(),
+            Source::Cur(record) | Source::Ori(record) => self.logged(record).to_vec(),
+            Source::Parity => self.worked_back(address, events),
         }
     }
 
@@ -134,10 +183,10 @@ impl Sight<'_> {
                 None => y = place,
             }
         }
-        events.add(Event::ReadByBoth, y != x && y < d);
-        events.add(Event::ReadByQ, y == d);
-        events.add(Event::ReadByP, y == x || y == d + 1);
-        events.add(Event::ReadBesideOri, (0..d).any(|index| self.entries.contains_key(&(stripe * d + index))));
+        events.add(Event::FetchByBoth, y != x && y < d);
+        events.add(Event::FetchByQ, y == d);
+        events.add(Event::FetchByP, y == x || y == d + 1);
+        events.add(Event::FetchBesideOri, (0..d).any(|index| self.entries.contains_key(&(stripe * d + index))));
         recovered(d, b, x, y, &row)[x * b..][..b].to_vec()
     }
 }
@@ -360,7 +409,8 @@ impl Work {
         events.add(Event::RebuildBothOfOne, !filled.is_disjoint(&afresh));
     }
 
-    /// Fills the data blocks of a stripe that are on failed members with what read would give; hands back the members.
+    /// Fills the data blocks of a stripe that are on failed members with what a recovering read would give; hands back
+    /// the members.
     fn fill(&mut self, sight: &Sight, stripe: usize) -> Vec<usize> {
         let lost = |&(_, member): &(usize, usize)| sight.is_failed(member);
         let data = roles::members(self.m, stripe).into_iter().take(self.m.d).enumerate();

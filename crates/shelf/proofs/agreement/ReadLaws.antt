@@ -1,4 +1,4 @@
--- What a read gives is what the book holds.
+-- What a fetch gives is what the book holds, and so is what a plain read gives.
 -- Assumes nothing.
 use mathlib.Core.Bool.{Bool, true, false, not, _&&_}
 use mathlib.Core.List.{List}
@@ -12,18 +12,20 @@ use lib.Dec.{eqb, ltb}
 use borrow.Author.Tests.{eq-eqb, ne-eqb, lt-ltb, le-ltb}
 use Rattle.stripe.proofs.Laws.{one-to-one}
 use Rattle.shelf.specs.Counting.{choose, count}
-use Rattle.shelf.specs.Members.{InRange, arrayMembers, allMembers, roleP, memberAt, blockP, blockQ, workedBack}
+use Rattle.shelf.specs.Members.{InRange, arrayMembers, allMembers, roleP, memberAt, wanted, blockP, blockQ, workedBack}
 use Rattle.shelf.specs.State.{State, isSome, listed, stale}
-use Rattle.shelf.specs.Status.{read, logFailed, withheld}
-use Rattle.shelf.specs.Calls.{orElse, original, missing, blockAt, served, code}
+use Rattle.shelf.specs.Status.{read, fetch, logFailed, withheld}
+use Rattle.shelf.specs.Calls.{orElse, original, missing, blockAt, code}
 use Rattle.shelf.specs.Book.{Book}
+use Rattle.shelf.specs.Lent.{bufferOf, readBuffer, fetchBuffer}
 use Rattle.shelf.specs.declared.record.Geometry.{Geometry}
 use Rattle.shelf.proofs.general.CountLaws.{any-none, count-more, no-three-roles}
 use Rattle.shelf.proofs.general.TestLaws.{cases, clash, choose-true, choose-false}
+use Rattle.shelf.proofs.lent.LayoutLaws.{blocksOf-same}
 use Rattle.shelf.proofs.agreement.RowParity.{worked-exact}
 use Rattle.shelf.proofs.agreement.ListedLaws.{opt-cases, some-is, unlisted, ori-listed, none-listed}
 use Rattle.shelf.proofs.agreement.Agreement.{Nearly, positive}
-use Rattle.shelf.proofs.agreement.StatusLaws.{in-stripe, read-passed}
+use Rattle.shelf.proofs.agreement.StatusLaws.{in-stripe, read-passed, fetch-passed}
 
 -- Where each listed block of stripe x has an Ori: which roles are missing, of a state with at most two failed members.
 module _ (g : Geometry) (s : State) (x : ℕ) (have : (j : ℕ) → j < g .d → s .log .ori x j ≡ none → listed (s .log) x j ≡ false) where
@@ -146,9 +148,25 @@ module _ (g : Geometry) (Y : InRange g) (s : State) (b : Book) (A : Nearly g s b
           choose-true (s .failed (memberAt g x i)) (found (s .log .cur x i) (s .log .ori x i)) (s .disk x i) e
           ∙ cases (logFailed g (s .failed)) (log-lost e) (log-sound e)
 
--- each block that an accepted read serves
-pub nearly-read : (g : Geometry) → InRange g → (s : State) (b : Book) → Nearly g s b → (a n len : ℕ) → code g (read a n len) s ≡ 0
-    → (j : ℕ) → j < n → served g s a j ≡ b .held ((a + j) / g .d) ((a + j) % g .d)
-nearly-read g Y s b A a n len z j h =
-    let r = read-passed g s a n len z in
-    block-exact g Y s b A ((a + j) / g .d) (in-stripe g (positive Y) a n (r .0) j h) ((a + j) % g .d) (mod-lt (a + j) (positive Y)) (r .1 j h)
+-- of sound disks a plain read gives what a fetch gives, in any state; and so it does where it is accepted
+pub sound-as-fetch : (g : Geometry) (s : State) (a n : ℕ) → ((j : ℕ) → j < n → wanted g (λ x i. s .failed (memberAt g x i)) a j ≡ false)
+    → readBuffer g s a n ≡ fetchBuffer g s a n
+unfolding bufferOf blockAt
+sound-as-fetch g s a n sound =
+    blocksOf-same n (g .b) (λ j. wanted g (s .disk) a j) (λ j. wanted g (blockAt g s) a j)
+    (λ j h. sym (choose-false (wanted g (λ x i. s .failed (memberAt g x i)) a j) _ (wanted g (s .disk) a j) (sound j h)))
+
+pub read-as-fetch : (g : Geometry) (s : State) (a n len : ℕ) → code g (read a n len) s ≡ 0 → readBuffer g s a n ≡ fetchBuffer g s a n
+read-as-fetch g s a n len z = sound-as-fetch g s a n (read-passed g s a n len z .1)
+
+-- each block that an accepted call hands over
+module _ (g : Geometry) (Y : InRange g) (s : State) (b : Book) (A : Nearly g s b) (a n len : ℕ) where
+  pub nearly-fetch : code g (fetch a n len) s ≡ 0 → (j : ℕ) → j < n → wanted g (blockAt g s) a j ≡ wanted g (b .held) a j
+  nearly-fetch z j h =
+      let r = fetch-passed g s a n len z in
+      block-exact g Y s b A ((a + j) / g .d) (in-stripe g (positive Y) a n (r .0) j h) ((a + j) % g .d) (mod-lt (a + j) (positive Y)) (r .1 j h)
+
+  pub nearly-read : code g (read a n len) s ≡ 0 → (j : ℕ) → j < n → wanted g (s .disk) a j ≡ wanted g (b .held) a j
+  nearly-read z j h =
+      let r = read-passed g s a n len z in
+      A .sound ((a + j) / g .d) ((a + j) % g .d) (in-stripe g (positive Y) a n (r .0) j h) (mod-lt (a + j) (positive Y)) (r .1 j h)

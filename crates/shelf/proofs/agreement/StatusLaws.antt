@@ -10,13 +10,13 @@ use lib.Dec.{eqb, ltb}
 use lib.ListN.{length}
 use borrow.Author.Tests.{ltb-false, eqb-true, leb-false, not-false}
 use Rattle.shelf.specs.Counting.{count}
-use Rattle.shelf.specs.Members.{InRange, logMember, allMembers, memberAt, addresses}
+use Rattle.shelf.specs.Members.{InRange, logMember, allMembers, memberAt, addresses, wanted}
 use Rattle.shelf.specs.State.{State, listed, marksIn}
-use Rattle.shelf.specs.Status.{Call, start, fail, write, read, resync, rebuild, newLog, fullResync, badAddress, badData, badMember, notNormal, isNormal, arrayFailed, logFailed, alreadyFailed, twoFailed, arraySound, logSound, someListed, withheld, readWithheld, dataWithheld, row, codeOf}
+use Rattle.shelf.specs.Status.{Call, start, fail, write, read, fetch, resync, rebuild, newLog, fullResync, badAddress, badData, badMember, notNormal, isNormal, arrayFailed, logFailed, alreadyFailed, twoFailed, arraySound, logSound, someListed, withheld, fetchWithheld, dataWithheld, readFailed, row, codeOf}
 use Rattle.shelf.specs.Calls.{code}
 use Rattle.shelf.specs.Book.{Book, bookCode}
 use Rattle.shelf.specs.declared.record.Geometry.{Geometry}
-use Rattle.shelf.proofs.numbers.TableRows.{row-zero, row-ext}
+use Rattle.shelf.proofs.numbers.TableRows.{row-zero, row-ext, blocks-zero}
 use Rattle.shelf.proofs.general.CountLaws.{any-ext, any-none}
 use Rattle.shelf.proofs.general.TestLaws.{or-right}
 use Rattle.shelf.proofs.agreement.ListedLaws.{marksIn-ext, stale-ext}
@@ -50,17 +50,22 @@ module _ (g : Geometry) (s : State) where
   pub write-passed : (a n : ℕ) (v : List ℕ) → code g (write a n v) s ≡ 0 → (length v ≡ n * g .b) × (arrayFailed g (s .failed) ≡ false)
   unfolding codeOf
   write-passed a n v z =
-      let r4 = row-zero 4 (badAddress g a n) _ (λ e. omega arith) z in
-      let r5 = row-zero 5 (badData g n (length v)) _ (λ e. omega arith) (r4 .1) in
-      (eqb-true _ _ (not-false (eqb (length v) (n * g .b)) (r5 .0)), row-zero 8 (arrayFailed g (s .failed)) 0 (λ e. omega arith) (r5 .1) .0)
+      let r = blocks-zero g a n (length v) _ z in
+      (eqb-true _ _ (not-false (eqb (length v) (n * g .b)) (r .1 .0)), row-zero 8 (arrayFailed g (s .failed)) 0 (λ e. omega arith) (r .1 .1) .0)
 
   pub read-passed : (a n len : ℕ) → code g (read a n len) s ≡ 0
-      → (badAddress g a n ≡ false) × ((j : ℕ) → j < n → withheld g (s .failed) (listed (s .log)) ((a + j) / g .d) ((a + j) % g .d) ≡ false)
+      → (badAddress g a n ≡ false) × ((j : ℕ) → j < n → wanted g (λ x i. s .failed (memberAt g x i)) a j ≡ false)
   unfolding codeOf
   read-passed a n len z =
-      let r4 = row-zero 4 (badAddress g a n) _ (λ e. omega arith) z in
-      let r5 = row-zero 5 (badData g n len) _ (λ e. omega arith) (r4 .1) in
-      (r4 .0, any-none n _ (row-zero 14 (readWithheld g (s .failed) (listed (s .log)) a n) 0 (λ e. omega arith) (r5 .1) .0))
+      let r = blocks-zero g a n len _ z in
+      (r .0, any-none n _ (row-zero 16 (readFailed g (s .failed) a n) 0 (λ e. omega arith) (r .1 .1) .0))
+
+  pub fetch-passed : (a n len : ℕ) → code g (fetch a n len) s ≡ 0
+      → (badAddress g a n ≡ false) × ((j : ℕ) → j < n → wanted g (withheld g (s .failed) (listed (s .log))) a j ≡ false)
+  unfolding codeOf
+  fetch-passed a n len z =
+      let r = blocks-zero g a n len _ z in
+      (r .0, any-none n _ (row-zero 14 (fetchWithheld g (s .failed) (listed (s .log)) a n) 0 (λ e. omega arith) (r .1 .1) .0))
 
   pub resync-passed : code g resync s ≡ 0 → arrayFailed g (s .failed) ≡ false
   unfolding codeOf
@@ -94,7 +99,8 @@ unfolding codeOf
 code-marks g pos f mode m m' e start = refl
 code-marks g pos f mode m m' e (fail j) = refl
 code-marks g pos f mode m m' e (write a n v) = refl
-code-marks g pos f mode m m' e (read a n len) =
+code-marks g pos f mode m m' e (read a n len) = refl
+code-marks g pos f mode m m' e (fetch a n len) =
     row-ext 4 (badAddress g a n) _ _ (λ t.
     ap (λ (u : Bool). row 5 (badData g n len) (row 14 u 0))
     (any-ext n _ _ (λ j h.

@@ -1,22 +1,22 @@
 -- What one call keeps and gives, for the claim over sequences of calls: the number is the book's, an accepted call keeps the agreement, and what a
--- read serves or a rebuild stores is what the book holds.
+-- fetch or a read gives or a rebuild stores is what the book holds.
 -- Assumes nothing.
 use mathlib.Core.Path.{_≡_, refl, sym, ap, _∙_}
-use Prim.Native.Nat.{ℕ, _+_, _/_, _%_, _<_}
+use Prim.Native.Nat.{ℕ, _<_}
 use native.Mathlib.Decide.{ℕ-discrete}
 use lib.Dec.{eqb}
 use borrow.Author.Tests.{eq-eqb, ne-eqb}
-use Rattle.shelf.specs.Members.{InRange}
+use Rattle.shelf.specs.Members.{InRange, wanted}
 use Rattle.shelf.specs.State.{State}
-use Rattle.shelf.specs.Status.{Call, start, fail, write, read, resync, rebuild, newLog, fullResync}
-use Rattle.shelf.specs.Calls.{settled, served, blockAt, rebuilt, work, code, after}
+use Rattle.shelf.specs.Status.{Call, start, fail, write, read, fetch, resync, rebuild, newLog, fullResync}
+use Rattle.shelf.specs.Calls.{settled, blockAt, rebuilt, work, code, after}
 use Rattle.shelf.specs.Book.{Book, bookWork, bookCode, bookAfter}
 use Rattle.shelf.specs.Sequence.{Fed}
 use Rattle.shelf.specs.declared.record.Geometry.{Geometry}
 use Rattle.shelf.proofs.general.TestLaws.{choose-true, choose-false}
 use Rattle.shelf.proofs.agreement.Agreement.{Agrees}
 use Rattle.shelf.proofs.agreement.StatusLaws.{nearly-says}
-use Rattle.shelf.proofs.agreement.ReadLaws.{nearly-read}
+use Rattle.shelf.proofs.agreement.ReadLaws.{nearly-fetch, nearly-read}
 use Rattle.shelf.proofs.agreement.WriteLaws.{write-keeps}
 use Rattle.shelf.proofs.agreement.CallLaws.{start-keeps, fail-keeps, newLog-keeps, fullResync-keeps, resync-keeps, refill-exact, rebuild-keeps}
 
@@ -55,6 +55,7 @@ module _ {g : Geometry} (Y : InRange g) {s : State} {b : Book} where
   keeps (fail j) f A z = fail-keeps g s b A j z
   keeps (write a n v) f A z = write-keeps g s b A a n v f z
   keeps (read a n len) f A z = unfold work bookWork in A
+  keeps (fetch a n len) f A z = unfold work bookWork in A
   keeps resync f A z = resync-keeps g s b A z
   keeps rebuild f A z = rebuild-keeps g Y s b A z
   keeps newLog f A z = newLog-keeps g s b A z
@@ -67,9 +68,11 @@ module _ {g : Geometry} (Y : InRange g) {s : State} {b : Book} where
         | no z ↦ rw (refused g c s z, book-refused g c b (λ e. z (says A c ∙ e))) A
       ]
 
-  -- each block that an accepted read serves
-  pub read-exact : Agrees g s b → (a n len : ℕ) → code g (read a n len) s ≡ 0
-      → (j : ℕ) → j < n → served g s a j ≡ b .held ((a + j) / g .d) ((a + j) % g .d)
+  -- each block that an accepted fetch gives, and each that an accepted read does
+  pub fetch-exact : Agrees g s b → (a n len : ℕ) → code g (fetch a n len) s ≡ 0 → (j : ℕ) → j < n → wanted g (blockAt g s) a j ≡ wanted g (b .held) a j
+  fetch-exact A a n len z = nearly-fetch g Y s b (A .near) a n len z
+
+  pub read-exact : Agrees g s b → (a n len : ℕ) → code g (read a n len) s ≡ 0 → (j : ℕ) → j < n → wanted g (s .disk) a j ≡ wanted g (b .held) a j
   read-exact A a n len z = nearly-read g Y s b (A .near) a n len z
 
   -- each data block after an accepted rebuild, on a disk that had failed or not

@@ -1,4 +1,4 @@
--- A block as a read gives it, out of array and log as lent: on a sound disk, from the log, worked back; and the buffer that is filled with them.
+-- A block as a fetch gives it, out of array and log as lent: on a sound disk, from the log, worked back; and a buffer that is filled with blocks.
 -- Assumes nothing.
 use mathlib.Core.Bool.{Bool, true, false, _||_}
 use mathlib.Core.List.{List, _++_}
@@ -16,14 +16,13 @@ use Rattle.stripe.specs.Blocks.{gen, block, put, byteOf}
 use Rattle.stripe.specs.Parity.{solved}
 use Rattle.stripe.specs.Places.{numbered, columnAt, byColumn, Tabled}
 use Rattle.stripe.specs.Steps.{Gathers}
-use Rattle.stripe.proofs.Laws.{place-lt, array-byte, log-byte, solved-ignores, fits, length-block, getD-block, block-whole, block-put-same, block-put-other, length-put, length-gen, gen-ext}
+use Rattle.stripe.proofs.Laws.{place-lt, array-byte, log-byte, solved-ignores, fits, length-block, getD-block, block-whole, length-gen, gen-ext, block-put-same, block-put-other, length-put}
 use Rattle.shelf.specs.Counting.{choose}
-use Rattle.shelf.specs.Members.{memberAt, placeAt, roleP, addressOf, column, otherMissing, workedBack}
-use Rattle.shelf.specs.State.{State}
-use Rattle.shelf.specs.Calls.{orElse, original, blockAt, served}
+use Rattle.shelf.specs.Members.{arrayMembers, memberAt, placeAt, wanted, roleP, addressOf, column, otherMissing, workedBack}
+use Rattle.shelf.specs.Calls.{orElse, original, blockAt}
 use Rattle.shelf.specs.Words.{words}
 use Rattle.shelf.specs.HashList.{noneWord, said, isRecord}
-use Rattle.shelf.specs.Lent.{lent, recordAt, stateOf, oriBy, flagAt, arrayBlock, readBuffer}
+use Rattle.shelf.specs.Lent.{lent, recordAt, stateOf, oriBy, flagAt, arrayBlock, arrayLength, bufferOf}
 use Rattle.shelf.specs.Reading.{Ready, latest, originalPlace, missingBy, solvedBlock, lostBlock, servedBlock}
 use Rattle.shelf.specs.declared.record.Geometry.{Geometry}
 use Rattle.shelf.specs.declared.record.Shelf.{Shelf}
@@ -62,6 +61,12 @@ module _ (c o : ℕ) (f : ℕ → List ℕ) (z : List ℕ) (v : ℕ) (e : v ≡ 
       cases (eqb c noneWord)
       (λ t. record-low v next (subst (λ (k : ℕ). isRecord k next ≡ true) (sym (e ∙ choose-true (eqb c noneWord) o c t)) q) n)
       (λ t. record-low v next (subst (λ (k : ℕ). isRecord k next ≡ true) (sym (e ∙ choose-false (eqb c noneWord) o c t)) p) n)
+
+-- a block of the array lies within it
+pub place-room : (g : Geometry) (a : List ℕ) → length a ≡ arrayLength g → (x i k : ℕ) → x < g .s → i < arrayMembers g → k ≡ placeAt g x i → k * g .b + g .b ≤ length a
+place-room g a long x i k hx hi e =
+    subst (λ (m : ℕ). m * g .b + g .b ≤ length a) (sym e)
+    (fits (placeAt g x i) ((g .d + 2) * g .s) (g .b) a long (place-lt (g .layout) (g .d) (g .s) x i hx hi))
 
 -- ---- one stripe of what is lent
 
@@ -171,7 +176,7 @@ module _ (r : Shelf) (a n l : List ℕ) (R : Ready (lent r a n l)) (x : ℕ) (hx
   unfolding workedBack stateOf solvedBlock
   worked i y work e is = is ∙ ap (λ (z : ℕ). solvedBlock (lent r a n l) x i z) e
 
-  -- ---- the block that a read gives
+  -- ---- the block that a fetch gives
 
   module _ (i : ℕ) where
     pub given-sound : flagAt r (memberAt (r .geometry) x i) ≡ false
@@ -205,11 +210,6 @@ module _ (r : Shelf) (a n l : List ℕ) (R : Ready (lent r a n l)) (x : ℕ) (hx
         (said-ori (words l) (r .geometry) (r .next) (r .listed) (omega (arith, Y .h-least)) (omega (arith, Y .d-least)) (Y .e-most) (R .listing .valid) (addressOf (r .geometry) x i)) u in
         fits v (r .geometry .l) (r .geometry .b) n (R .log) (omega (arith, low, R .listing .room))
 
-    pub place-fits : i < r .geometry .d → placeAt (r .geometry) x i * r .geometry .b + r .geometry .b ≤ length a
-    place-fits h =
-        fits (placeAt (r .geometry) x i) ((r .geometry .d + 2) * r .geometry .s) (r .geometry .b) a (R .array)
-        (place-lt (r .geometry .layout) (r .geometry .d) (r .geometry .s) x i hx (omega arith))
-
     pub lost-length : length (lostBlock (lent r a n l) x i) ≡ r .geometry .b
     unfolding workedBack
     lost-length = length-gen (r .geometry .b) _
@@ -222,7 +222,7 @@ module _ (r : Shelf) (a n l : List ℕ) (R : Ready (lent r a n l)) (x : ℕ) (hx
           | no q ↦ ap length (sym (given-log t (latest (words l) (r .geometry) (addressOf (r .geometry) x i)) refl q))
               ∙ length-block (r .geometry .b) (latest (words l) (r .geometry) (addressOf (r .geometry) x i)) n (latest-low (latest (words l) (r .geometry) (addressOf (r .geometry) x i)) refl q)
         ])
-        (λ t. ap length (sym (given-sound t)) ∙ length-block (r .geometry .b) (placeAt (r .geometry) x i) a (place-fits h))
+        (λ t. ap length (sym (given-sound t)) ∙ length-block (r .geometry .b) (placeAt (r .geometry) x i) a (place-room (r .geometry) a (R .array) x i (placeAt (r .geometry) x i) hx (omega arith) refl))
 
 -- ---- a block put into the caller's buffer, by what it is
 
@@ -260,8 +260,7 @@ filled-turn b N f j out o len h size before e = (
   subst (λ (z : List ℕ). FilledTo b f (j + 1) z) (sym e) (filled-next b N f j out len h size before),
 )
 
-pub read-filled : (g : Geometry) (s : State) (a N j : ℕ) (out : List ℕ) → length out ≡ N * g .b → j ≡ N → FilledTo (g .b) (served g s a) j out
-    → out ≡ readBuffer g s a N
-unfolding readBuffer
-read-filled g s a N j out len e fill =
-    blocksOf-back N (g .b) (served g s a) out len (λ k h. sym (fill k (omega arith)))
+pub filled-all : (g : Geometry) (f : ℕ → ℕ → List ℕ) (a N j : ℕ) (out : List ℕ) → length out ≡ N * g .b → j ≡ N → FilledTo (g .b) (wanted g f a) j out
+    → out ≡ bufferOf g f a N
+unfolding bufferOf
+filled-all g f a N j out len e fill = blocksOf-back N (g .b) (wanted g f a) out len (λ k h. sym (fill k (omega arith)))

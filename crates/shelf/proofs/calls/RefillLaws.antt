@@ -1,5 +1,5 @@
--- The array as a rebuild fills it, block by block and stripe by stripe. What stands in failed members' blocks does not tell in the block that a read
--- gives, so each is filled with what a read gives of the array as it was; and parity is that of the blocks filled.
+-- The array as a rebuild fills it, block by block and stripe by stripe. What stands in failed members' blocks does not tell in the block that a
+-- fetch gives, so each is filled with what a fetch gives of the array as it was; and parity is that of the blocks filled.
 -- Assumes nothing.
 use mathlib.Core.Bool.{Bool, true, false, not, _&&_}
 use mathlib.Core.List.{List}
@@ -38,7 +38,7 @@ use Rattle.shelf.proofs.hashlist.ListMarks.{listed-found}
 use Rattle.shelf.proofs.hashlist.ListMeaning.{said-whole}
 use Rattle.shelf.proofs.calls.MadeLaws.{HoldsArray, Rowed, elsewhere, in-row, in-p, in-q, made-reads}
 use Rattle.shelf.proofs.calls.ServedLaws.{record-some, record-none}
-use Rattle.shelf.proofs.calls.GivenLaws.{given-sound, given-lost, given-length, place-fits, worked}
+use Rattle.shelf.proofs.calls.GivenLaws.{given-sound, given-lost, given-length, worked}
 
 -- ---- as the code fills it
 
@@ -69,12 +69,6 @@ filled-sound r a n l R x i hx hi t =
     (fits (placeAt (r .geometry) x i) ((r .geometry .d + 2) * r .geometry .s) (r .geometry .b) a (R .array)
     (place-lt (r .geometry .layout) (r .geometry .d) (r .geometry .s) x i hx (omega arith)))))
     (given-sound r a n l R x hx i t)
-
--- its place lies within the array
-pub place-room : (r : Shelf) (a n l : List ℕ) → Ready (lent r a n l) → (x i k : ℕ) → x < r .geometry .s → i < r .geometry .d
-    → k ≡ placeAt (r .geometry) x i → k * r .geometry .b + r .geometry .b ≤ length a
-place-room r a n l R x i k hx hi e =
-    subst (λ (m : ℕ). m * r .geometry .b + r .geometry .b ≤ length a) (sym e) (place-fits r a n l R x hx i hi)
 
 -- a block that is worked back and copied
 pub filled-lost : (r : Shelf) (a n l : List ℕ) → Ready (lent r a n l) → (x i k v : ℕ) (u o : List ℕ) → x < r .geometry .s → flagAt r (memberAt (r .geometry) x i) ≡ true
@@ -114,7 +108,7 @@ rebuilt-more h x a o ea eo =
     let q : suc x ≡ x + 1 = omega arith in
     eo ∙ ap (λ (z : List ℕ). stripeRebuilt (withArray h z) x) ea ∙ ap (rebuiltTo h) q
 
--- ---- the block that a read gives does not hang on failed members' blocks
+-- ---- the block that a fetch gives does not hang on failed members' blocks
 
 -- a state with other blocks
 abbrev pub withBlocks : State → (ℕ → ℕ → List ℕ) → (ℕ → List ℕ) → (ℕ → List ℕ) → State
@@ -402,7 +396,7 @@ module _ (r : Shelf) (n l : List ℕ) (two : count (r .geometry .d + 2) (flagAt 
   filled-is zero h = record { long = refl; here = λ i p. absurd (omega arith); rest = λ y i hy hi w. refl }
   filled-is (suc c) h = one-more c (filledTo (lent r a n l) x c) (omega arith) (filled-is c (omega arith))
 
-  -- what is filled is what a read gives of the array so far, too
+  -- what is filled is what a fetch gives of the array so far, too
   filled-below : (c : ℕ) → c ≤ g .d → FilledBelow (lent r (filledTo (lent r a n l) x c) n l) x c
   filled-below c h k low f =
       let F = filled-is c h in

@@ -1,4 +1,4 @@
--- Blocks as a read's functions find them, by the list's words and by block numbers: they are the state's.
+-- Blocks as a fetch's functions find them, by the list's words and by block numbers: they are the state's. And the rows of read and fetch.
 -- Assumes nothing.
 use mathlib.Core.Bool.{Bool, true, false, not, _&&_, _||_}
 use mathlib.Core.List.{List}
@@ -14,25 +14,25 @@ use lib.ListN.{length, getD, set}
 use lib.Seq.{getD-set-same, getD-set-other}
 use borrow.Author.Tests.{lt-ltb, le-ltb, eq-eqb, ne-eqb, ltb-true, ltb-false, eqb-true, eqb-false}
 use Rattle.stripe.specs.Places.{Tabled}
-use Rattle.shelf.specs.Counting.{choose, any, first}
-use Rattle.shelf.specs.Members.{InRange, arrayMembers, memberAt, placeAt, stripeOf, indexOf, addressOf, otherMissing}
+use Rattle.stripe.proofs.Laws.{one-to-one}
+use Rattle.shelf.specs.Counting.{choose, first}
+use Rattle.shelf.specs.Members.{InRange, arrayMembers, memberAt, placeAt, addressOf, wanted, otherMissing}
 use Rattle.shelf.specs.State.{isSome, stale}
-use Rattle.shelf.specs.Status.{read, badAddress, badData, withheld, readWithheld, codeOf}
-use Rattle.shelf.specs.Calls.{orElse, work}
+use Rattle.shelf.specs.Status.{read, fetch, arrayFailed, badAddress, blockRows, withheld, fetchWithheld, readFailed, codeOf}
+use Rattle.shelf.specs.Calls.{orElse}
 use Rattle.shelf.specs.Words.{words}
 use Rattle.shelf.specs.HashList.{Entry, entry, entryIn, noneWord, oriAt, curAt, lookup, said, valid, listedIn, staleIn}
-use Rattle.shelf.specs.Lent.{lent, stateOf, recordAt, oriBy, listedBy, flag, flagAt, numberOf, triesList, Answered}
+use Rattle.shelf.specs.Lent.{lent, recordAt, oriBy, listedBy, flagAt, inputRows, triesList, numberOf}
+use Rattle.shelf.specs.Records.{failedRole}
 use Rattle.shelf.specs.Reading.{ListReady, Ready, latest, originalPlace, missingBy}
 use Rattle.shelf.specs.declared.record.Geometry.{Geometry}
 use Rattle.shelf.specs.declared.record.Shelf.{Shelf}
 use Rattle.shelf.proofs.general.TestLaws.{cases, choose-true, choose-false, or-true, or-right, and-false, not-off, same-bool}
 use Rattle.shelf.proofs.hashlist.ListMarks.{listed-found}
-use Rattle.shelf.proofs.general.WalkLaws.{first-is, any-turn}
-use Rattle.shelf.proofs.general.CountLaws.{any-ext, none-any, any-some}
-use Rattle.shelf.proofs.numbers.TableRows.{row-zero}
+use Rattle.shelf.proofs.general.WalkLaws.{first-is}
+use Rattle.shelf.proofs.general.CountLaws.{any-ext, any-none, none-any}
+use Rattle.shelf.proofs.numbers.TableRows.{blocks-zero}
 use Rattle.shelf.proofs.numbers.InputLaws.{Passed, inputs-pass, fine-record}
-use Rattle.shelf.proofs.lent.LayoutLaws.{flags-are}
-use Rattle.shelf.proofs.lent.LeavesLaws.{leaves-here}
 
 -- ---- what the list says of an address, from the place found for it
 
@@ -242,7 +242,7 @@ module _ (g : Geometry) (a n : ℕ) where
       (λ t. let u = ltb-true (g .d * g .s) (a + n) t in lt-ltb (g .d * g .s - n) a (omega (arith, u, h)))
       (λ t. let u = ltb-true (g .d * g .s - n) a t in lt-ltb (g .d * g .s) (a + n) (omega (arith, u, h))))
 
--- ---- row 14, as the code tries it
+-- ---- rows 14 and 16, as the code tries them
 
 -- an address below d * s is in a stripe below s
 pub in-range-stripe : (d s a : ℕ) → 0 < d → a < d * s → a / d < s
@@ -250,10 +250,6 @@ in-range-stripe d s a pos h = let c : d * s ≡ s * d = mul-comm d s in div-lt-i
 
 pub in-range-index : (d a : ℕ) → 0 < d → a % d < d
 in-range-index d a pos = mod-lt a pos
-
--- of block j of a read from address a on
-abbrev pub withheldFrom : Shelf → List ℕ → ℕ → ℕ → Bool
-withheldFrom r l a j = withheld (r .geometry) (flagAt r) (listedBy (r .geometry) l) (stripeOf (r .geometry) (a + j)) (indexOf (r .geometry) (a + j))
 
 module _ (r : Shelf) (l : List ℕ) (R : ListReady r l) where
   stale-is : (x : ℕ) → staleIn (words l) (r .geometry) x ≡ stale (r .geometry) (listedBy (r .geometry) l) x
@@ -277,22 +273,25 @@ module _ (r : Shelf) (l : List ℕ) (R : ListReady r l) where
         q ∙ stale-is x
         ∙ sym (ap₂ (λ (v w : Bool). v && (w && stale (r .geometry) (listedBy (r .geometry) l) x)) t (ap (flagAt r) (sym e) ∙ f))
 
-  pub none-withheld : (a n : ℕ) → flagAt r (r .geometry .d + 2) ≡ false → readWithheld (r .geometry) (flagAt r) (listedBy (r .geometry) l) a n ≡ false
-  none-withheld a n t = none-any n (withheldFrom r l a) (λ j _. sym (held-log ((a + j) / r .geometry .d) ((a + j) % r .geometry .d) t))
+  pub none-withheld : (a n : ℕ) → flagAt r (r .geometry .d + 2) ≡ false → fetchWithheld (r .geometry) (flagAt r) (listedBy (r .geometry) l) a n ≡ false
+  none-withheld a n t = none-any n (wanted (r .geometry) (withheld (r .geometry) (flagAt r) (listedBy (r .geometry) l)) a) (λ j _. sym (held-log ((a + j) / r .geometry .d) ((a + j) % r .geometry .d) t))
+
+-- no block is on a failed disk where no array member has failed
+pub role-sound : (r : Shelf) → arrayFailed (r .geometry) (flagAt r) ≡ false → (x i : ℕ) → i < arrayMembers (r .geometry) → failedRole r x i ≡ false
+role-sound r e x i h = any-none (arrayMembers (r .geometry)) (flagAt r) e (memberAt (r .geometry) x i) (one-to-one (r .geometry .layout) (r .geometry .d) x .within i h)
+
+pub wanted-sound : (r : Shelf) → 0 < r .geometry .d → arrayFailed (r .geometry) (flagAt r) ≡ false → (a j : ℕ) → wanted (r .geometry) (failedRole r) a j ≡ false
+wanted-sound r pos e a j =
+    let low = mod-lt (a + j) pos in role-sound r e ((a + j) / r .geometry .d) ((a + j) % r .geometry .d) (omega (arith, low))
+
+pub none-failed : (r : Shelf) → 0 < r .geometry .d → arrayFailed (r .geometry) (flagAt r) ≡ false → (a n : ℕ) → readFailed (r .geometry) (flagAt r) a n ≡ false
+none-failed r pos e a n = none-any n (wanted (r .geometry) (failedRole r) a) (λ j _. wanted-sound r pos e a j)
 
 -- a test as it came out
 pub as-tested : (t u v : Bool) → t ≡ u → t ≡ v → u ≡ v
 as-tested t u v e q = sym e ∙ q
 
--- the walk of read_withheld, downwards
-module _ (r : Shelf) (l : List ℕ) (a j : ℕ) (t : Bool) (e : t ≡ withheldFrom r l a (j - 1)) (pos : 0 < j) where
-  pub one-withheld : t ≡ true → any j (withheldFrom r l a) ≡ true
-  one-withheld q = any-some j (withheldFrom r l a) (j - 1) (omega (arith, pos)) (sym e ∙ q)
-
-  pub this-not-withheld : t ≡ false → any (j - 1) (withheldFrom r l a) ≡ any j (withheldFrom r l a)
-  this-not-withheld q = any-turn j (j - 1) (withheldFrom r l a) (omega (arith, pos)) (sym e ∙ q)
-
--- ---- the rows of a read, and what an accepted one gives its functions
+-- ---- the rows of read and fetch, and what an accepted one gives its functions
 
 pub address-within : (g : Geometry) (a n : ℕ) → badAddress g a n ≡ false → a + n ≤ g .d * g .s
 address-within g a n e = ltb-false (g .d * g .s) (a + n) (or-right (eqb n 0) (ltb (g .d * g .s) (a + n)) e)
@@ -312,25 +311,27 @@ list-ready r na nl l P =
       valid = P .valid;
     }
 
-pub read-ready : (r : Shelf) (a n l : List ℕ) (at count len code : ℕ) → code ≡ numberOf r (length a) (length n) l (read at count len) → code ≡ 0
-    → Ready (lent r a n l) × ((at + count ≤ r .geometry .d * r .geometry .s) × (len ≡ count * r .geometry .b))
-unfolding numberOf triesList codeOf
-read-ready r a n l at count len code e z =
-    let P = inputs-pass r (length a) (length n) l _ (sym e ∙ z) in
-    let four = row-zero 4 (badAddress (r .geometry) at count) _ (λ z. omega arith) (P .1) in
-    let five = row-zero 5 (badData (r .geometry) count len) _ (λ z. omega arith) (four .1) in (
+-- an accepted call on blocks, whatever is tried after rows 4 and 5, has passed rows 1 to 3 and has its blocks
+pub blocks-ready : (r : Shelf) (a n l : List ℕ) (at count len rest : ℕ)
+    → inputRows r (length a) (length n) l true (blockRows (r .geometry) at count len rest) ≡ 0
+    → Ready (lent r a n l) × ((at + count ≤ r .geometry .d * r .geometry .s) × ((len ≡ count * r .geometry .b) × (rest ≡ 0)))
+blocks-ready r a n l at count len rest z =
+    let P = inputs-pass r (length a) (length n) l _ z in
+    let four = blocks-zero (r .geometry) at count len rest (P .1) in (
       record { listing = list-ready r (length a) (length n) l (P .0); array = P .0 .array; log = P .0 .log },
-      (address-within (r .geometry) at count (four .0), eqb-true len (count * r .geometry .b) (not-off (eqb len (count * r .geometry .b)) (five .0))),
+      (
+        address-within (r .geometry) at count (four .0),
+        (eqb-true len (count * r .geometry .b) (not-off (eqb len (count * r .geometry .b)) (four .1 .0)), four .1 .1),
+      ),
     )
 
-pub read-answered : (r : Shelf) (a n l : List ℕ) → length (r .failed) ≡ 19 → (at count len code : ℕ)
-    → code ≡ numberOf r (length a) (length n) l (read at count len) → code ≡ 0 → ((i : ℕ) → getD l i 0 < 256)
-    → Answered (lent r a n l) (read at count len) 0 (lent r a n l)
-unfolding numberOf work triesList stateOf
-read-answered r a n l len19 at count len code e z bytes =
-    let P = inputs-pass r (length a) (length n) l _ (sym e ∙ z) .0 in
-    record {
-      number = sym z ∙ e;
-      done = λ _. leaves-here r a n l P bytes (r .mode) (r .failed) (flagAt r) (flags-are (flag (r .failed)) (r .failed) len19 (λ i _. refl));
-      refused = λ z. absurd (z refl);
-    }
+module _ (r : Shelf) (a n l : List ℕ) (at count len code : ℕ) where
+  pub read-ready : code ≡ numberOf r (length a) (length n) l (read at count len) → code ≡ 0
+      → Ready (lent r a n l) × ((at + count ≤ r .geometry .d * r .geometry .s) × (len ≡ count * r .geometry .b))
+  unfolding numberOf triesList codeOf
+  read-ready e z = let y = blocks-ready r a n l at count len _ (sym e ∙ z) in (y .0, (y .1 .0, y .1 .1 .0))
+
+  pub fetch-ready : code ≡ numberOf r (length a) (length n) l (fetch at count len) → code ≡ 0
+      → Ready (lent r a n l) × ((at + count ≤ r .geometry .d * r .geometry .s) × (len ≡ count * r .geometry .b))
+  unfolding numberOf triesList codeOf
+  fetch-ready e z = let y = blocks-ready r a n l at count len _ (sym e ∙ z) in (y .0, (y .1 .0, y .1 .1 .0))

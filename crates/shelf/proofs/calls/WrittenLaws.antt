@@ -8,14 +8,14 @@ use lib.Dec.{eqb, ltb}
 use lib.ListN.{length, getD}
 use borrow.Author.Tests.{eqb-true, eqb-false}
 use Rattle.shelf.specs.Members.{addresses}
-use Rattle.shelf.specs.Status.{write, badAddress, badData, codeOf}
+use Rattle.shelf.specs.Status.{write, codeOf}
 use Rattle.shelf.specs.Calls.{work, writeTo}
 use Rattle.shelf.specs.Lent.{lent, flagAt, listedBy, stateOf, numberOf, triesList, Answered}
 use Rattle.shelf.specs.Writing.{WriteReady, WrittenTo}
 use Rattle.shelf.specs.declared.record.Shelf.{Shelf}
 use Rattle.shelf.proofs.general.TestLaws.{or-left, not-off}
 use Rattle.shelf.proofs.numbers.InputLaws.{Passed, inputs-pass}
-use Rattle.shelf.proofs.numbers.TableRows.{row-zero}
+use Rattle.shelf.proofs.numbers.TableRows.{blocks-zero}
 use Rattle.shelf.proofs.calls.ServedLaws.{address-within}
 use Rattle.shelf.proofs.calls.ShowsLaws.{state-shows, shows-leaves}
 
@@ -29,8 +29,8 @@ module _ (r : Shelf) (a n l : List ℕ) (len : length (r .failed) ≡ 19) (at co
   pub write-asks : WriteReady (lent r a n l) at count (length v)
   unfolding codeOf
   write-asks =
-      let four = row-zero 4 (badAddress (r .geometry) at count) _ (λ z. omega arith) (passed .1) in
-      let five = row-zero 5 (badData (r .geometry) count (length v)) _ (λ z. omega arith) (four .1) in
+      let four = blocks-zero (r .geometry) at count (length v) _ (passed .1) in
+      let five = four .1 in
       let some = eqb-false count 0 (or-left (eqb count 0) (ltb (addresses (r .geometry)) (at + count)) (four .0)) in
       record {
         range = passed .0 .range;

@@ -1,7 +1,7 @@
 -- What is laid out as bytes is read back as it was, and what is read is laid out as it was: the array, the log and the flags of the members.
 -- Assumes nothing.
 use mathlib.Core.Bool.{Bool, false}
-use mathlib.Core.List.{List}
+use mathlib.Core.List.{List, _++_}
 use mathlib.Core.Path.{_≡_, refl, sym, ap, ap₂, _∙_, subst}
 use Prim.Native.Nat.{ℕ, zero, suc, _+_, _*_, _/_, _%_, _<_}
 use native.Mathlib.Decide.{decLt}
@@ -11,7 +11,7 @@ use lib.Dec.{eqb, ltb}
 use lib.ListN.{length, getD}
 use lib.Seq.{ext-getD}
 use borrow.Author.Tests.{lt-ltb, le-ltb, eq-eqb, ne-eqb, eqb-true}
-use Rattle.stripe.specs.Blocks.{block, byteOf, blocksOf}
+use Rattle.stripe.specs.Blocks.{gen, block, byteOf, blocksOf}
 use Rattle.stripe.specs.Places.{place, memberOf}
 use Rattle.stripe.proofs.Laws.{one-to-one, place-lt, fits, length-block, getD-block, ext-block, length-blocksOf, byteOf-blocksOf}
 use Rattle.shelf.specs.Counting.{choose, first}
@@ -40,6 +40,14 @@ pub blocksOf-back : (N b : ℕ) (f : ℕ → List ℕ) (l : List ℕ) → length
 blocksOf-back N b f l e same =
     ext-block b N l (blocksOf N b (λ i j. getD (f i) j 0)) e (length-blocksOf N b (λ i j. getD (f i) j 0))
     (λ n h. sym (same n h) ∙ sym (block-blocksOf N b f n h (ap length (same n h) ∙ length-block b n l (fits n N b l e h))))
+
+-- of blocks that are the same
+pub blocksOf-same : (N b : ℕ) (u f : ℕ → List ℕ) → ((n : ℕ) → n < N → u n ≡ f n)
+    → blocksOf N b (λ i j. getD (u i) j 0) ≡ blocksOf N b (λ i j. getD (f i) j 0)
+unfolding blocksOf
+blocksOf-same zero b u f same = refl
+blocksOf-same (suc N) b u f same =
+    ap₂ _++_ (blocksOf-same N b u f (λ n h. same n (omega arith))) (ap (λ (v : List ℕ). gen b (λ j. getD v j 0)) (same N (omega arith)))
 
 -- ---- the array
 

@@ -1,5 +1,5 @@
--- Array and list hold the state that they are read as; so calls that store nothing but the record leave what is promised. Laws for start, fail and new
--- log, and for every refusal.
+-- Array and list hold the state that they are read as; so calls that store nothing but the record leave what is promised. Laws for start, fail, new
+-- log, read and fetch, and for every refusal.
 -- Assumes nothing.
 use mathlib.Core.Bool.{Bool, true, false, _&&_}
 use mathlib.Core.List.{List}
@@ -14,10 +14,10 @@ use lib.Seq.{getD-set-same, getD-set-other}
 use Rattle.shelf.specs.Counting.{choose, setAt}
 use Rattle.shelf.specs.Members.{logMember}
 use Rattle.shelf.specs.State.{State, listed, marksIn}
-use Rattle.shelf.specs.Status.{Call, start, fail, newLog}
+use Rattle.shelf.specs.Status.{Call, start, fail, read, fetch, newLog, codeOf}
 use Rattle.shelf.specs.Calls.{modeWithout, work}
 use Rattle.shelf.specs.HashList.{valid}
-use Rattle.shelf.specs.Lent.{Lent, lent, flag, flagAt, stateOf, arrayBlock, roleBlock, flagsOf, numberOf, triesList, Leaves, Answered}
+use Rattle.shelf.specs.Lent.{Lent, lent, flag, flagAt, stateOf, arrayBlock, roleBlock, flagsOf, inputRows, listedBy, numberOf, triesList, Leaves, Answered}
 use Rattle.shelf.specs.Records.{withMode, modeThen, withFailed, withRenewed}
 use Rattle.shelf.specs.Showing.{HoldsArray, HoldsList}
 use Rattle.shelf.specs.declared.record.Shelf.{Shelf}
@@ -78,7 +78,7 @@ set-flags fs j t e h =
       | no q ↦ getD-set-other fs j i t false q ∙ sym (setAt-other j t (flag fs) i q)
     ])
 
--- ---- the three calls, accepted; and any call, refused
+-- ---- these calls, accepted; and any call, refused
 
 pub refused-answered : (h : Lent) (c : Call) (code : ℕ) → code ≡ numberOf (h .shelf) (length (h .array)) (length (h .log)) (h .list) c → code ≢ 0 → Answered h c code h
 refused-answered h c code e z = record { number = e; done = λ q. absurd (z q); refused = λ _. refl }
@@ -93,6 +93,27 @@ module _ (r : Shelf) (a n l : List ℕ) (len : length (r .failed) ≡ 19) (bytes
         done = λ _. leaves-here r a n l P bytes 1 (r .failed) (flagAt r) (same-flags (r .failed) len);
         refused = λ z. absurd (z refl);
       }
+
+  -- a call that leaves what is lent as it is
+  kept-answered : (c : Call) → work (r .geometry) c (stateOf (lent r a n l)) ≡ stateOf (lent r a n l) → triesList c ≡ true
+      → 0 ≡ numberOf r (length a) (length n) l c → Answered (lent r a n l) c 0 (lent r a n l)
+  unfolding numberOf stateOf
+  kept-answered c same three e =
+      let rest = codeOf (r .geometry) (flagAt r) (r .mode) (listedBy (r .geometry) l) c in
+      let P = inputs-pass r (length a) (length n) l rest (ap (λ (t : Bool). inputRows r (length a) (length n) l t rest) (sym three) ∙ sym e) .0 in
+      record {
+        number = e;
+        done = λ _.
+            subst (λ (s : State). Leaves (r .geometry) s (lent r a n l)) (sym same)
+            (leaves-here r a n l P bytes (r .mode) (r .failed) (flagAt r) (same-flags (r .failed) len));
+        refused = λ z. absurd (z refl);
+      }
+
+  pub read-answered : (at count k : ℕ) → 0 ≡ numberOf r (length a) (length n) l (read at count k) → Answered (lent r a n l) (read at count k) 0 (lent r a n l)
+  read-answered at count k e = unfold work triesList in kept-answered (read at count k) refl refl e
+
+  pub fetch-answered : (at count k : ℕ) → 0 ≡ numberOf r (length a) (length n) l (fetch at count k) → Answered (lent r a n l) (fetch at count k) 0 (lent r a n l)
+  fetch-answered at count k e = unfold work triesList in kept-answered (fetch at count k) refl refl e
 
   pub fail-answered : (j : ℕ) → j < 19 → 0 ≡ numberOf r (length a) (length n) l (fail j) → Answered (lent r a n l) (fail j) 0 (lent (withFailed r j) a n l)
   unfolding numberOf work triesList stateOf

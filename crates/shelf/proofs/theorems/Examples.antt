@@ -1,6 +1,7 @@
--- The marked examples K1 to K13 and the printed session of the bench program, proved from the definitions by computation: one statement ranges over
--- the list of the examples, and one over the list of the printed lines. Then a session in both layouts and two in the rotating one, by shelf and by
--- book, and the session's shelf as bytes: what format leaves, the layout of array, log and list, and the numbers 1 to 3.
+-- The marked examples K1 to K13 and the printed session of the bench program, with a plain read and with a fetch, proved from the definitions by
+-- computation: one statement ranges over the list of the examples, and one over the lists of the session's lines. Then a session in both layouts and
+-- two in the rotating one, by shelf and by book, and the session's shelf as bytes: what format leaves, the layout of array, log and list, and the
+-- numbers 1 to 3.
 -- Assumes nothing.
 use mathlib.Core.Bool.{false}
 use mathlib.Core.List.{List, [], _∷_}
@@ -17,11 +18,11 @@ use Rattle.stripe.specs.Calls.{changed, eachColumn, badMeasures, badLength, bad
 use Rattle.shelf.specs.Counting.{choose, bit, count, total, any, first, lesser, setAt}
 use Rattle.shelf.specs.Members.{logMember, roleP, roleQ, memberAt, addressOf, blank, blockP, blockQ, otherMissing, workedBack, stripeOf, indexOf}
 use Rattle.shelf.specs.State.{State, isSome, listed, marksIn, freshState}
-use Rattle.shelf.specs.Status.{Call, start, fail, write, read, resync, rebuild, newLog, fullResync, row, codeOf}
+use Rattle.shelf.specs.Status.{Call, start, fail, write, read, fetch, resync, rebuild, newLog, fullResync, row, codeOf}
 use Rattle.shelf.specs.Calls.{settled, made, remade, reconstructs, appendOne, append, logged, writeStripe, written, writeTo, blockAt, resynced, rebuilt, work, code, after}
 use Rattle.shelf.specs.Words.{words, bytesOf}
 use Rattle.shelf.specs.HashList.{noneWord, seek, lookup, entriesFrom, entries, putFront, putAll, encode, rises, has, hasAll, isRecord, goodWords, goodEntry, allGood, same, valid, said}
-use Rattle.shelf.specs.Lent.{lent, flagAt, recordAt, stateOf, badRecord, badLengths, triesList, inputRows, numberOf, flagsFrom, recordOf, roleOf, arrayOf, logOf, wordOf, entriesOf, listOf, readBuffer, formatCode, formatted}
+use Rattle.shelf.specs.Lent.{lent, flagAt, recordAt, stateOf, badRecord, badLengths, triesList, inputRows, numberOf, flagsFrom, recordOf, roleOf, arrayOf, logOf, wordOf, entriesOf, listOf, bufferOf, readBuffer, fetchBuffer, formatCode, formatted}
 use Rattle.shelf.specs.Lent as rows
 use Rattle.shelf.specs.Book.{Book, freshBook, closed, marked, usedThen, markStripe, markTo, bookWork, bookCode, bookAfter}
 use Rattle.shelf.specs.declared.record.Geometry.{Geometry}
@@ -94,18 +95,21 @@ examples =
     ex (recoverBuffer 3 1 0 1 (77 ∷ 88 ∷ 3 ∷ 0 ∷ 9 ∷ [])) (1 ∷ 2 ∷ 3 ∷ 0 ∷ 9 ∷ []) ∷
     ex (makeBuffer 2 1 (128 ∷ 128 ∷ 77 ∷ 88 ∷ [])) (128 ∷ 128 ∷ 0 ∷ 157 ∷ []) ∷
     ex (recoverBuffer 2 1 0 2 (77 ∷ 128 ∷ 88 ∷ 157 ∷ [])) (128 ∷ 128 ∷ 0 ∷ 157 ∷ []) ∷
-    -- K8: the number of a read of blocks 0 and 1, and what it gives
-    ex (code (small 3) (read 0 2 2) k8 ∷ readBuffer (small 3) k8 0 2) (0 ∷ 1 ∷ 7 ∷ []) ∷
-    -- K9: the numbers of reads of block 0 and of block 2, and what the latter gives
-    ex (code (small 3) (read 0 1 1) k9 ∷ code (small 3) (read 2 1 1) k9 ∷ readBuffer (small 3) k9 2 1) (14 ∷ 0 ∷ 3 ∷ []) ∷
+    -- K8: the number of a fetch of blocks 0 and 1, and what it gives
+    ex (code (small 3) (fetch 0 2 2) k8 ∷ fetchBuffer (small 3) k8 0 2) (0 ∷ 1 ∷ 7 ∷ []) ∷
+    -- K9: the numbers of fetches of block 0 and of block 2, and what the latter gives
+    ex (code (small 3) (fetch 0 1 1) k9 ∷ code (small 3) (fetch 2 1 1) k9 ∷ fetchBuffer (small 3) k9 2 1) (14 ∷ 0 ∷ 3 ∷ []) ∷
+    -- plain reads there: of blocks 0 and 1 in K8's state; of block 0, of blocks 1 and 2 and what they give in K9's
+    ex (code (small 3) (read 0 2 2) k8 ∷ code (small 3) (read 0 1 1) k9 ∷ code (small 3) (read 1 2 2) k9 ∷ readBuffer (small 3) k9 1 2) (16 ∷ 16 ∷ 0 ∷ 7 ∷ 3 ∷ []) ∷
     -- K10: the stripe and data index of address 4, the stripe and data index where a write to it stores, and the address there
     ex (stripeOf (small 3) 4 ∷ indexOf (small 3) 4 ∷ first 2 (λ x. any 3 (written (small 3) 4 1 x)) ∷ first 3 (written (small 3) 4 1 1) ∷ addressOf (small 3) 1 1 ∷ [])
     (1 ∷ 1 ∷ 1 ∷ 1 ∷ 4 ∷ []) ∷
-    -- K11: reads of addresses 5 and 6, and writes
+    -- K11: reads of addresses 5 and 6, fetches, and writes
     ex
     (code (small 3) (read 5 1 1) (freshState (small 3)) ∷ code (small 3) (read 6 1 1) (freshState (small 3))
+    ∷ code (small 3) (fetch 5 1 1) (freshState (small 3)) ∷ code (small 3) (fetch 6 1 1) (freshState (small 3))
     ∷ code (small 3) (write 5 1 (7 ∷ [])) (freshState (small 3)) ∷ code (small 3) (write 6 1 (7 ∷ [])) (freshState (small 3)) ∷ [])
-    (0 ∷ 4 ∷ 0 ∷ 4 ∷ []) ∷
+    (0 ∷ 4 ∷ 0 ∷ 4 ∷ 0 ∷ 4 ∷ []) ∷
     -- K12: reconstruction-write, 3 records, 3 listed
     ex (loggedBy 3 2 (5 ∷ 6 ∷ [])) (1 ∷ 3 ∷ 3 ∷ []) ∷
     -- K13: read-modify-write, 2 records, 1 listed
@@ -113,8 +117,8 @@ examples =
     []
 
 pub all-hold : Holds examples
-unfolding badMeasures badLength badMember makeCode recoverCode accepted makeBuffer recoverBuffer double pow2 timesLow times raised inverse from gen block byteOf blocksOf changed eachColumn pick sum one weight parityP parityQ parity.made without restP restQ fromP fromQ fromBoth solved dataSolved recovered fixed memberOf choose bit count total any first lesser setAt blank blockP blockQ otherMissing workedBack isSome freshState row codeOf settled made remade appendOne append logged writeStripe writeTo blockAt resynced rebuilt work after afterAll readBuffer
-all-hold = (refl, (refl, (refl, (refl, (refl, (refl, (refl, (refl, (refl, (refl, (refl, (refl, (refl, tt)))))))))))))
+unfolding badMeasures badLength badMember makeCode recoverCode accepted makeBuffer recoverBuffer double pow2 timesLow times raised inverse from gen block byteOf blocksOf changed eachColumn pick sum one weight parityP parityQ parity.made without restP restQ fromP fromQ fromBoth solved dataSolved recovered fixed memberOf choose bit count total any first lesser setAt blank blockP blockQ otherMissing workedBack isSome freshState row codeOf settled made remade appendOne append logged writeStripe writeTo blockAt resynced rebuilt work after afterAll bufferOf
+all-hold = (refl, (refl, (refl, (refl, (refl, (refl, (refl, (refl, (refl, (refl, (refl, (refl, (refl, (refl, tt))))))))))))))
 
 -- ---- the printed session
 
@@ -130,13 +134,14 @@ pub record Line : Type 0 where
 abbrev pub line : Call → ℕ → ℕ → ℕ → ℕ → ℕ → Line
 line c n m k x y = record { call = c; code = n; mode = m; listed = k; next = x; first = y }
 
-abbrev pub printed : List Line
-printed =
+-- the printed session, where this line reads block 1
+abbrev pub sessionWith : Line → List Line
+sessionWith l =
     line start 0 1 0 0 0 ∷
     line (write 1 1 (7 ∷ [])) 0 1 1 2 0 ∷
     line (fail 0) 0 1 1 2 0 ∷
     line (fail 1) 0 1 1 2 0 ∷
-    line (read 1 1 1) 0 1 1 2 7 ∷
+    l ∷
     line rebuild 0 1 1 2 0 ∷
     line (write 1 1 (9 ∷ [])) 0 1 1 3 0 ∷
     line (write 4 1 (5 ∷ [])) 0 1 1 3 0 ∷
@@ -144,16 +149,24 @@ printed =
     line (fail 6) 6 0 0 0 0 ∷
     []
 
--- the first byte that a call with this code hands over, where a read of n blocks from address a on gives the bytes (bytes a n)
-unfoldable pub firstByte : Call → ℕ → (ℕ → ℕ → List ℕ) → ℕ
-firstByte start n bytes = 0
-firstByte (fail j) n bytes = 0
-firstByte (write a k v) n bytes = 0
-firstByte (read a k len) n bytes = choose (eqb n 0) (getD (bytes a k) 0 0) 0
-firstByte resync n bytes = 0
-firstByte rebuild n bytes = 0
-firstByte newLog n bytes = 0
-firstByte fullResync n bytes = 0
+-- with a plain read, as it is printed, and with a fetch
+abbrev pub printed : List Line
+printed = sessionWith (line (read 1 1 1) 16 1 1 2 0)
+
+abbrev pub fetched : List Line
+fetched = sessionWith (line (fetch 1 1 1) 0 1 1 2 7)
+
+-- the first byte that a call with this code hands over, where a read of n blocks from address a on gives the bytes (plain a n), a fetch (full a n)
+unfoldable pub firstByte : Call → ℕ → (ℕ → ℕ → List ℕ) → (ℕ → ℕ → List ℕ) → ℕ
+firstByte start n plain full = 0
+firstByte (fail j) n plain full = 0
+firstByte (write a k v) n plain full = 0
+firstByte (read a k len) n plain full = choose (eqb n 0) (getD (plain a k) 0 0) 0
+firstByte (fetch a k len) n plain full = choose (eqb n 0) (getD (full a k) 0 0) 0
+firstByte resync n plain full = 0
+firstByte rebuild n plain full = 0
+firstByte newLog n plain full = 0
+firstByte fullResync n plain full = 0
 
 -- the lines with their numbers worked out by a shelf in state s; after each call the bytes of failed members change
 unfoldable pub byShelf : Geometry → List Line → State → List Line
@@ -161,7 +174,7 @@ byShelf g [] s = []
 byShelf g (l ∷ ls) s =
     let c = l .call in
     let t = after g c s in
-    line c (code g c s) (t .mode) (marksIn g (listed (t .log))) (t .log .next) (firstByte c (code g c s) (readBuffer g s))
+    line c (code g c s) (t .mode) (marksIn g (listed (t .log))) (t .log .next) (firstByte c (code g c s) (readBuffer g s) (fetchBuffer g s))
     ∷ byShelf g ls (gone g t)
 
 -- and by a book: marks for listed, u for next, and the block held for the one read
@@ -170,17 +183,17 @@ byBook g [] b = []
 byBook g (l ∷ ls) b =
     let c = l .call in
     let t = bookAfter g c b in
-    line c (bookCode g c b) (t .state .mode) (marksIn g (t .state .marks)) (t .state .used)
-    (firstByte c (bookCode g c b) (λ a _. b .held (a / g .d) (a % g .d)))
+    let bytes : ℕ → ℕ → List ℕ = λ a _. b .held (a / g .d) (a % g .d) in
+    line c (bookCode g c b) (t .state .mode) (marksIn g (t .state .marks)) (t .state .used) (firstByte c (bookCode g c b) bytes bytes)
     ∷ byBook g ls t
 
 -- shelf and book both give these lines
 abbrev pub Runs : Geometry → List Line → Type 0
 Runs g ls = (byShelf g ls (freshState g) ≡ ls) × (byBook g ls (freshBook g) ≡ ls)
 
-pub as-printed : Runs (small 3) printed
-unfolding double pow2 timesLow times raised inverse from gen block blocksOf pick sum one weight parityP parityQ without restP restQ fromP fromQ fromBoth solved fixed memberOf choose bit count total any first lesser setAt blank blockP blockQ otherMissing workedBack isSome freshState row codeOf settled made remade appendOne append logged writeStripe writeTo blockAt resynced rebuilt work after readBuffer freshBook closed marked usedThen markStripe markTo bookWork bookAfter firstByte byShelf byBook
-as-printed = (refl, refl)
+pub as-printed : Runs (small 3) printed × Runs (small 3) fetched
+unfolding double pow2 timesLow times raised inverse from gen block blocksOf pick sum one weight parityP parityQ without restP restQ fromP fromQ fromBoth solved fixed memberOf choose bit count total any first lesser setAt blank blockP blockQ otherMissing workedBack isSome freshState row codeOf settled made remade appendOne append logged writeStripe writeTo blockAt resynced rebuilt work after bufferOf freshBook closed marked usedThen markStripe markTo bookWork bookAfter firstByte byShelf byBook
+as-printed = ((refl, refl), (refl, refl))
 
 -- ---- sessions in a layout: d 2, s stripes, blocks of one byte
 
@@ -208,6 +221,7 @@ parityRebuilt =
     line rebuild 0 0 0 0 0 ∷
     line start 0 1 0 0 0 ∷
     line (read 2 1 1) 0 1 0 0 9 ∷
+    line (fetch 2 1 1) 0 1 0 0 9 ∷
     []
 
 -- The rotating layout, three stripes. Member 3 has P of stripe 0, Q of stripe 1 and data index 0 of stripe 2. All three are stale when it is rebuilt, and
@@ -220,15 +234,18 @@ threeKinds =
     line (write 2 1 (8 ∷ [])) 0 1 2 4 0 ∷
     line (write 4 1 (9 ∷ [])) 0 1 3 6 0 ∷
     line (fail 3) 0 1 3 6 0 ∷
-    line (read 4 1 1) 0 1 3 6 9 ∷
+    line (read 4 1 1) 16 1 3 6 0 ∷
+    line (fetch 4 1 1) 0 1 3 6 9 ∷
     line rebuild 0 1 1 6 0 ∷
     line (fail 2) 0 1 1 6 0 ∷
     line (fail 4) 0 2 1 6 0 ∷
     line (read 4 1 1) 0 2 1 6 9 ∷
+    line (fetch 4 1 1) 0 2 1 6 9 ∷
     line rebuild 0 0 0 0 0 ∷
     line newLog 0 0 0 0 0 ∷
     line (fail 0) 0 0 0 0 0 ∷
-    line (read 2 1 1) 0 0 0 0 8 ∷
+    line (read 2 1 1) 16 0 0 0 0 ∷
+    line (fetch 2 1 1) 0 0 0 0 8 ∷
     []
 
 -- Member 0 has data index 1 of stripe 2: with the log failed too, the stale stripe's block is withheld, though it has Q of stripe 0.
@@ -238,13 +255,15 @@ withheldThere =
     line (write 4 1 (9 ∷ [])) 0 1 1 2 0 ∷
     line (fail 0) 0 1 1 2 0 ∷
     line (fail 4) 0 2 1 2 0 ∷
-    line (read 5 1 1) 14 2 1 2 0 ∷
+    line (read 5 1 1) 16 2 1 2 0 ∷
+    line (fetch 5 1 1) 14 2 1 2 0 ∷
     line (read 4 1 1) 0 2 1 2 9 ∷
+    line (fetch 4 1 1) 0 2 1 2 9 ∷
     line rebuild 14 2 1 2 0 ∷
     []
 
 pub in-layouts : Runs (inLayout 0 2) parityRebuilt × (Runs (inLayout 1 2) parityRebuilt × (Runs (inLayout 1 3) threeKinds × Runs (inLayout 1 3) withheldThere))
-unfolding double pow2 timesLow times raised inverse from gen block blocksOf pick sum one weight parityP parityQ without restP restQ fromP fromQ fromBoth solved memberAfter rotatingP rotatingQ rotatingData rotating fixed memberOf choose bit count total any first lesser setAt blank blockP blockQ otherMissing workedBack isSome freshState row codeOf settled made remade appendOne append logged writeStripe writeTo blockAt resynced rebuilt work after readBuffer freshBook closed marked usedThen markStripe markTo bookWork bookAfter firstByte byShelf byBook
+unfolding double pow2 timesLow times raised inverse from gen block blocksOf pick sum one weight parityP parityQ without restP restQ fromP fromQ fromBoth solved memberAfter rotatingP rotatingQ rotatingData rotating fixed memberOf choose bit count total any first lesser setAt blank blockP blockQ otherMissing workedBack isSome freshState row codeOf settled made remade appendOne append logged writeStripe writeTo blockAt resynced rebuilt work after bufferOf freshBook closed marked usedThen markStripe markTo bookWork bookAfter firstByte byShelf byBook
 in-layouts = ((refl, refl), ((refl, refl), ((refl, refl), (refl, refl))))
 
 -- ---- the session's shelf as bytes
@@ -309,10 +328,10 @@ onBytes =
     ex (formatted (small 3) .array) (replicate 10 0) ∷
     ex (formatted (small 3) .log) (replicate 4 0) ∷
     ex (formatted (small 3) .list) (replicate 72 255) ∷
-    -- the calls on what format leaves: start, a read, resync (7), rebuild and new log (12), full resync
+    -- the calls on what format leaves: start, a read, a fetch, resync (7), rebuild and new log (12), full resync
     (let h = formatted (small 3) in
     let n = numberOf (h .shelf) (length (h .array)) (length (h .log)) (h .list) in
-    ex (n start ∷ n (read 5 1 1) ∷ n resync ∷ n rebuild ∷ n newLog ∷ n fullResync ∷ []) (0 ∷ 0 ∷ 7 ∷ 12 ∷ 12 ∷ 0 ∷ [])) ∷
+    ex (n start ∷ n (read 5 1 1) ∷ n (fetch 5 1 1) ∷ n resync ∷ n rebuild ∷ n newLog ∷ n fullResync ∷ []) (0 ∷ 0 ∷ 0 ∷ 7 ∷ 12 ∷ 12 ∷ 0 ∷ [])) ∷
     -- after the write: array, log, list and record
     ex (arrayOf (small 3) afterWrite) array ∷
     ex (logOf (small 3) afterWrite) logBytes ∷
@@ -363,6 +382,6 @@ onBytes =
     []
 
 pub bytes-hold : Holds onBytes
-unfolding block byteOf from gen blocksOf fixed memberOf place choose bit count total any first lesser setAt blank blockP blockQ otherMissing workedBack isSome freshState row codeOf settled made appendOne append logged writeStripe writeTo blockAt work after afterAll words bytesOf seek lookup entriesFrom entries putFront putAll encode rises has hasAll isRecord goodWords goodEntry allGood same valid said recordAt stateOf rows.badMeasures badRecord badLengths triesList inputRows numberOf flagsFrom roleOf arrayOf logOf wordOf entriesOf listOf readBuffer formatCode formatted
+unfolding block byteOf from gen blocksOf fixed memberOf place choose bit count total any first lesser setAt blank blockP blockQ otherMissing workedBack isSome freshState row codeOf settled made appendOne append logged writeStripe writeTo blockAt work after afterAll words bytesOf seek lookup entriesFrom entries putFront putAll encode rises has hasAll isRecord goodWords goodEntry allGood same valid said recordAt stateOf rows.badMeasures badRecord badLengths triesList inputRows numberOf flagsFrom roleOf arrayOf logOf wordOf entriesOf listOf bufferOf formatCode formatted
 bytes-hold =
     (refl, (refl, (refl, (refl, (refl, (refl, (refl, (refl, (refl, (refl, (refl, (refl, (refl, (refl, (refl, (refl, (refl, tt)))))))))))))))))

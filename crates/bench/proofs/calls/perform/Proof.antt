@@ -30,6 +30,12 @@ read-first-requires c κs = search needs
 enum-known-request-3 : tie.Need-enum-known-request-3
 enum-known-request-3 c = search needs
 
+read-first-requires-2 : tie.Need-read-first-requires-2
+read-first-requires-2 c κs = search needs
+
+enum-known-request-4 : tie.Need-enum-known-request-4
+enum-known-request-4 c = search needs
+
 shelf-fail-requires : tie.Need-shelf-fail-requires
 shelf-fail-requires c κs = search needs
 
@@ -126,12 +132,12 @@ same-length-13 c = search needs
 same-length-14 : tie.Need-same-length-14
 same-length-14 c = search needs
 
-returns-4 : tie.Need-returns-4
-unfolding Performed
-returns-4 c = rw (c .before .before .before .before .before .before .request3 .given .1, c .told2 .ensures) (c .before .shelf-fail .ensures, refl)
-
 same-length-15 : tie.Need-same-length-15
 same-length-15 c = search needs
+
+returns-4 : tie.Need-returns-4
+unfolding Performed
+returns-4 c = rw (c .before .before .before .before .before .before .before .before .request3 .given .1) (c .before .before .read-first2 .ensures)
 
 same-length-16 : tie.Need-same-length-16
 same-length-16 c = search needs
@@ -139,12 +145,12 @@ same-length-16 c = search needs
 same-length-17 : tie.Need-same-length-17
 same-length-17 c = search needs
 
-returns-5 : tie.Need-returns-5
-unfolding Performed
-returns-5 c = rw (c .before .before .before .before .before .before .before .before .enum-told2 .given .1) (c .before .before .before .before .resync .ensures)
-
 same-length-18 : tie.Need-same-length-18
 same-length-18 c = search needs
+
+returns-5 : tie.Need-returns-5
+unfolding Performed
+returns-5 c = rw (c .before .before .before .before .before .before .request4 .given .1, c .told2 .ensures) (c .before .shelf-fail .ensures, refl)
 
 same-length-19 : tie.Need-same-length-19
 same-length-19 c = search needs
@@ -152,12 +158,12 @@ same-length-19 c = search needs
 same-length-20 : tie.Need-same-length-20
 same-length-20 c = search needs
 
-returns-6 : tie.Need-returns-6
-unfolding Performed
-returns-6 c = rw (c .before .before .before .before .before .before .before .before .before .enum-told3 .given .1, c .told3 .ensures) (c .before .before .before .before .before .shelf-rebuild .ensures, refl)
-
 same-length-21 : tie.Need-same-length-21
 same-length-21 c = search needs
+
+returns-6 : tie.Need-returns-6
+unfolding Performed
+returns-6 c = rw (c .before .before .before .before .before .before .before .before .enum-told2 .given .1) (c .before .before .before .before .resync .ensures)
 
 same-length-22 : tie.Need-same-length-22
 same-length-22 c = search needs
@@ -165,12 +171,12 @@ same-length-22 c = search needs
 same-length-23 : tie.Need-same-length-23
 same-length-23 c = search needs
 
-returns-7 : tie.Need-returns-7
-unfolding Performed
-returns-7 c = rw (c .before .before .before .before .before .enum-told4 .given .1, c .told4 .ensures) (c .before .shelf-new-log .ensures, refl)
-
 same-length-24 : tie.Need-same-length-24
 same-length-24 c = search needs
+
+returns-7 : tie.Need-returns-7
+unfolding Performed
+returns-7 c = rw (c .before .before .before .before .before .before .before .before .before .enum-told3 .given .1, c .told3 .ensures) (c .before .before .before .before .before .shelf-rebuild .ensures, refl)
 
 same-length-25 : tie.Need-same-length-25
 same-length-25 c = search needs
@@ -178,13 +184,29 @@ same-length-25 c = search needs
 same-length-26 : tie.Need-same-length-26
 same-length-26 c = search needs
 
+same-length-27 : tie.Need-same-length-27
+same-length-27 c = search needs
+
 returns-8 : tie.Need-returns-8
 unfolding Performed
-returns-8 c = rw (c .before .before .before .before .before .before .before .before .before .enum-told5 .given .1, c .told5 .ensures) (c .before .before .before .before .before .shelf-full-resync .ensures, refl)
+returns-8 c = rw (c .before .before .before .before .before .enum-told4 .given .1, c .told4 .ensures) (c .before .shelf-new-log .ensures, refl)
+
+same-length-28 : tie.Need-same-length-28
+same-length-28 c = search needs
+
+same-length-29 : tie.Need-same-length-29
+same-length-29 c = search needs
+
+same-length-30 : tie.Need-same-length-30
+same-length-30 c = search needs
 
 returns-9 : tie.Need-returns-9
 unfolding Performed
-returns-9 c = rw (c .enum-told6 .given .1) (refl, (refl, refl))
+returns-9 c = rw (c .before .before .before .before .before .before .before .before .before .enum-told5 .given .1, c .told5 .ensures) (c .before .before .before .before .before .shelf-full-resync .ensures, refl)
+
+returns-10 : tie.Need-returns-10
+unfolding Performed
+returns-10 c = rw (c .enum-told6 .given .1) (refl, (refl, refl))
 
 pub perform-spec : {M : Type 1} → statement M
 perform-spec =
@@ -198,6 +220,8 @@ perform-spec =
     enum-known-request-2
     read-first-requires
     enum-known-request-3
+    read-first-requires-2
+    enum-known-request-4
     shelf-fail-requires
     told-requires-2
     enum-told-2
@@ -229,21 +253,26 @@ perform-spec =
     same-length-12
     same-length-13
     same-length-14
-    returns-4
     same-length-15
+    returns-4
     same-length-16
     same-length-17
-    returns-5
     same-length-18
+    returns-5
     same-length-19
     same-length-20
-    returns-6
     same-length-21
+    returns-6
     same-length-22
     same-length-23
-    returns-7
     same-length-24
+    returns-7
     same-length-25
     same-length-26
+    same-length-27
     returns-8
-    returns-9)
+    same-length-28
+    same-length-29
+    same-length-30
+    returns-9
+    returns-10)

@@ -138,18 +138,40 @@ returns-8 c =
       sym (c .before .is-name8 .ensures) ∙ c .if8 .taken,
     )
 
+slice-aggregate-is-name-9 : tie.Need-slice-aggregate-is-name-9
+slice-aggregate-is-name-9 c = search needs
+
+is-name-requires-9 : tie.Need-is-name-requires-9
+is-name-requires-9 c κs = search needs
+
 returns-9 : tie.Need-returns-9
 unfolding named
 returns-9 c =
     simp (
-      sym (c .before .before .before .before .before .before .before .before .before .before .before .before .before .before .before .before .before .before .before .before .before .before .is-name .ensures) ∙ c .before .before .before .before .before .before .before .before .before .before .before .before .before .before .before .before .before .before .before .before .before .if1 .left,
-      sym (c .before .before .before .before .before .before .before .before .before .before .before .before .before .before .before .before .before .before .before .is-name2 .ensures) ∙ c .before .before .before .before .before .before .before .before .before .before .before .before .before .before .before .before .before .before .if2 .left,
-      sym (c .before .before .before .before .before .before .before .before .before .before .before .before .before .before .before .before .is-name3 .ensures) ∙ c .before .before .before .before .before .before .before .before .before .before .before .before .before .before .before .if3 .left,
-      sym (c .before .before .before .before .before .before .before .before .before .before .before .before .before .is-name4 .ensures) ∙ c .before .before .before .before .before .before .before .before .before .before .before .before .if4 .left,
-      sym (c .before .before .before .before .before .before .before .before .before .before .is-name5 .ensures) ∙ c .before .before .before .before .before .before .before .before .before .if5 .left,
-      sym (c .before .before .before .before .before .before .before .is-name6 .ensures) ∙ c .before .before .before .before .before .before .if6 .left,
-      sym (c .before .before .before .before .is-name7 .ensures) ∙ c .before .before .before .if7 .left,
-      sym (c .before .is-name8 .ensures) ∙ c .if8 .left,
+      sym (c .before .before .before .before .before .before .before .before .before .before .before .before .before .before .before .before .before .before .before .before .before .before .before .before .before .is-name .ensures) ∙ c .before .before .before .before .before .before .before .before .before .before .before .before .before .before .before .before .before .before .before .before .before .before .before .before .if1 .left,
+      sym (c .before .before .before .before .before .before .before .before .before .before .before .before .before .before .before .before .before .before .before .before .before .before .is-name2 .ensures) ∙ c .before .before .before .before .before .before .before .before .before .before .before .before .before .before .before .before .before .before .before .before .before .if2 .left,
+      sym (c .before .before .before .before .before .before .before .before .before .before .before .before .before .before .before .before .before .before .before .is-name3 .ensures) ∙ c .before .before .before .before .before .before .before .before .before .before .before .before .before .before .before .before .before .before .if3 .left,
+      sym (c .before .before .before .before .before .before .before .before .before .before .before .before .before .before .before .before .is-name4 .ensures) ∙ c .before .before .before .before .before .before .before .before .before .before .before .before .before .before .before .if4 .left,
+      sym (c .before .before .before .before .before .before .before .before .before .before .before .before .before .is-name5 .ensures) ∙ c .before .before .before .before .before .before .before .before .before .before .before .before .if5 .left,
+      sym (c .before .before .before .before .before .before .before .before .before .before .is-name6 .ensures) ∙ c .before .before .before .before .before .before .before .before .before .if6 .left,
+      sym (c .before .before .before .before .before .before .before .is-name7 .ensures) ∙ c .before .before .before .before .before .before .if7 .left,
+      sym (c .before .before .before .before .is-name8 .ensures) ∙ c .before .before .before .if8 .left,
+      sym (c .before .is-name9 .ensures) ∙ c .if9 .taken,
+    )
+
+returns-10 : tie.Need-returns-10
+unfolding named
+returns-10 c =
+    simp (
+      sym (c .before .before .before .before .before .before .before .before .before .before .before .before .before .before .before .before .before .before .before .before .before .before .before .before .before .is-name .ensures) ∙ c .before .before .before .before .before .before .before .before .before .before .before .before .before .before .before .before .before .before .before .before .before .before .before .before .if1 .left,
+      sym (c .before .before .before .before .before .before .before .before .before .before .before .before .before .before .before .before .before .before .before .before .before .before .is-name2 .ensures) ∙ c .before .before .before .before .before .before .before .before .before .before .before .before .before .before .before .before .before .before .before .before .before .if2 .left,
+      sym (c .before .before .before .before .before .before .before .before .before .before .before .before .before .before .before .before .before .before .before .is-name3 .ensures) ∙ c .before .before .before .before .before .before .before .before .before .before .before .before .before .before .before .before .before .before .if3 .left,
+      sym (c .before .before .before .before .before .before .before .before .before .before .before .before .before .before .before .before .is-name4 .ensures) ∙ c .before .before .before .before .before .before .before .before .before .before .before .before .before .before .before .if4 .left,
+      sym (c .before .before .before .before .before .before .before .before .before .before .before .before .before .is-name5 .ensures) ∙ c .before .before .before .before .before .before .before .before .before .before .before .before .if5 .left,
+      sym (c .before .before .before .before .before .before .before .before .before .before .is-name6 .ensures) ∙ c .before .before .before .before .before .before .before .before .before .if6 .left,
+      sym (c .before .before .before .before .before .before .before .is-name7 .ensures) ∙ c .before .before .before .before .before .before .if7 .left,
+      sym (c .before .before .before .before .is-name8 .ensures) ∙ c .before .before .before .if8 .left,
+      sym (c .before .is-name9 .ensures) ∙ c .if9 .left,
     )
 
 pub named-spec : {M : Type 1} → statement M
@@ -181,4 +203,7 @@ named-spec =
     slice-aggregate-is-name-8
     is-name-requires-8
     returns-8
-    returns-9)
+    slice-aggregate-is-name-9
+    is-name-requires-9
+    returns-9
+    returns-10)

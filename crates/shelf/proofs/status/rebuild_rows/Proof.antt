@@ -8,7 +8,6 @@ use Rattle.shelf.proofs.calls.RebuildLaws.{none-by-list, none-by-log, r
 use Rattle.shelf.proofs.calls.ServedLaws.{as-tested}
 use Rattle.shelf.proofs.general.TestLaws.{not-off, not-on}
 use Rattle.shelf.proofs.numbers.TableRows.{row-hit, row-pass}
-use borrow.Author.Needs.{needs}
 use Rattle.shelf.proofs.status.rebuild_rows.Statement.{statement}
 use Rattle.shelf.proofs.status.rebuild_rows.Tie as tie
 

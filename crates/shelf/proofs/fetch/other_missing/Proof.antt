@@ -1,4 +1,4 @@
--- `shelf::read::other_missing` meets its contract. The loop's invariant: no role passed is missing, but for i.
+-- `shelf::fetch::other_missing` meets its contract. The loop's invariant: no role passed is missing, but for i.
 -- Assumes nothing.
 use mathlib.Core.Logic.{⊎-elim}
 use mathlib.Core.Path.{_≡_, sym, _∙_, subst}
@@ -7,8 +7,8 @@ use Rattle.shelf.proofs.calls.ServedLaws.{NoneBelow, below-zero, below-
 use Rattle.shelf.specs.Reading.{missingBy}
 use native.Mathlib.Omega.{arith}
 use borrow.Author.Needs.{needs}
-use Rattle.shelf.proofs.read.other_missing.Statement.{statement}
-use Rattle.shelf.proofs.read.other_missing.Tie as tie
+use Rattle.shelf.proofs.fetch.other_missing.Statement.{statement}
+use Rattle.shelf.proofs.fetch.other_missing.Tie as tie
 
 abbrev Inv-loop : tie.InvT-loop
 Inv-loop shelf list x i roles lost n₀ n = (n ≤ roles) × NoneBelow (missingBy shelf list x) i n

@@ -1,4 +1,4 @@
--- `shelf::read::solve_originals` meets its contract: the table has the originals.
+-- `shelf::fetch::solve_originals` meets its contract: the table has the originals.
 -- Assumes nothing.
 use mathlib.Core.Path.{_≡_, subst, sym}
 use Prim.Native.Nat.{ℕ, _+_, _*_, _≤_}
@@ -8,8 +8,8 @@ use Rattle.stripe.specs.Steps.{Gathers}
 use Rattle.shelf.proofs.calls.GivenLaws.{gathers, worked-by}
 use Rattle.shelf.proofs.numbers.InputLaws.{array-small}
 use borrow.Author.Needs.{needs}
-use Rattle.shelf.proofs.read.solve_originals.Statement.{statement}
-use Rattle.shelf.proofs.read.solve_originals.Tie as tie
+use Rattle.shelf.proofs.fetch.solve_originals.Statement.{statement}
+use Rattle.shelf.proofs.fetch.solve_originals.Tie as tie
 
 original-numbers-requires : tie.Need-original-numbers-requires
 original-numbers-requires c κs = (c .before .before .before .before .before .before .pre .0 .listing, c .before .before .before .before .before .before .pre .1 .0)

@@ -1,9 +1,9 @@
--- `shelf::read::recover_block` meets its contract.
+-- `shelf::fetch::recover_block` meets its contract.
 -- Assumes nothing.
 use Rattle.shelf.proofs.calls.GivenLaws.{worked}
 use borrow.Author.Needs.{needs}
-use Rattle.shelf.proofs.read.recover_block.Statement.{statement}
-use Rattle.shelf.proofs.read.recover_block.Tie as tie
+use Rattle.shelf.proofs.fetch.recover_block.Statement.{statement}
+use Rattle.shelf.proofs.fetch.recover_block.Tie as tie
 
 other-missing-requires : tie.Need-other-missing-requires
 other-missing-requires c κs = (c .before .before .before .before .before .pre .0 .listing, (c .before .before .before .before .before .pre .1 .0, c .before .before .before .before .before .pre .1 .1 .0))
