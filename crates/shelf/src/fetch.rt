@@ -63,13 +63,14 @@ fn fetch_each(
     requires { ⌜ Ready (lent shelf (now array) (now log) (now list)) × ((a + n ≤ shelf .geometry .d * shelf .geometry .s) × ((length (now out) ≡ n * shelf .geometry .b) × ((length (now work) ≡ shelf .geometry .b) × Products (now products)))) ⌝ }
     ensures { λ _. ⌜ (now (out .exit) ≡ fetchBuffer (shelf .geometry) (stateOf (lent shelf (now (array .entry)) (now (log .entry)) (now (list .entry)))) a n) × Products (now (products .exit)) ⌝ }
 {
-    let g = shelf.geometry;
+    let d = shelf.geometry.d;
+    let mut spot = read::spot_of(a, d);
     let mut j: usize = 0;
     while j < n {
         put_block(
             shelf,
-            (a + j) / g.d,
-            (a + j) % g.d,
+            spot.x,
+            spot.i,
             out,
             j,
             array,
@@ -78,6 +79,7 @@ fn fetch_each(
             work,
             products,
         );
+        spot = spot.next(d);
         j += 1;
     }
 }

@@ -4,7 +4,7 @@ use mathlib.Core.Bool.{Bool, true, false, _||_}
 use mathlib.Core.List.{List, _++_}
 use mathlib.Core.Logic.{_≢_}
 use mathlib.Core.Option.{Option}
-use mathlib.Core.Path.{_≡_, refl, sym, ap, _∙_, subst}
+use mathlib.Core.Path.{_≡_, refl, sym, ap, ap₂, _∙_, subst}
 use Prim.Native.Nat.{ℕ, _+_, _*_, _≤_, _<_}
 use native.Mathlib.Nat.{mul-le-mul-right}
 use native.Mathlib.Decide.{ℕ-discrete}
@@ -27,6 +27,7 @@ use Rattle.shelf.specs.Reading.{Ready, latest, originalPlace, missingBy,
 use Rattle.shelf.specs.declared.record.Geometry.{Geometry}
 use Rattle.shelf.specs.declared.record.Shelf.{Shelf}
 use Rattle.shelf.proofs.general.TestLaws.{cases, clash, choose-true, choose-false}
+use Rattle.shelf.proofs.general.AddressLaws.{spot-is, spot-within}
 use Rattle.shelf.proofs.hashlist.ListMeaning.{said-ori, said-cur}
 use Rattle.shelf.proofs.lent.LayoutLaws.{by-role, blocksOf-back}
 use Rattle.shelf.proofs.calls.ServedLaws.{record-some, record-none, number-log, number-array}
@@ -260,7 +261,34 @@ filled-turn b N f j out o len h size before e = (
   subst (λ (z : List ℕ). FilledTo b f (j + 1) z) (sym e) (filled-next b N f j out len h size before),
 )
 
-pub filled-all : (g : Geometry) (f : ℕ → ℕ → List ℕ) (a N j : ℕ) (out : List ℕ) → length out ≡ N * g .b → j ≡ N → FilledTo (g .b) (wanted g f a) j out
-    → out ≡ bufferOf g f a N
-unfolding bufferOf
-filled-all g f a N j out len e fill = blocksOf-back N (g .b) (wanted g f a) out len (λ k h. sym (fill k (omega arith)))
+-- A walk over n blocks from address a on, before block j: where that block stands, and the first j blocks of out are the table's.
+pub record Walked (g : Geometry) (f : ℕ → ℕ → List ℕ) (a n j x i : ℕ) (out : List ℕ) : Type 0 where
+  pub so-far : j ≤ n
+  pub size : length out ≡ n * g .b
+  pub spot : x * g .d + i ≡ a + j
+  pub index : i < g .d
+  pub filled : FilledTo (g .b) (wanted g f a) j out
+
+module _ (g : Geometry) (f : ℕ → ℕ → List ℕ) (a n : ℕ) where
+  pub walk-start : (x i : ℕ) (out : List ℕ) → x * g .d + i ≡ a → i < g .d → length out ≡ n * g .b → Walked g f a n 0 x i out
+  walk-start x i out e h len =
+      record { so-far = omega arith; size = len; spot = omega (arith, e); index = h; filled = filled-none (g .b) (wanted g f a) out }
+
+  module _ (j x i : ℕ) (out : List ℕ) (W : Walked g f a n j x i out) (h : j < n) where
+    pub walk-stripe : a + n ≤ g .d * g .s → x < g .s
+    walk-stripe room = spot-within (a + j) (g .d) (g .s) x i (omega (arith, W .index)) (W .spot) (omega (arith, room, h))
+
+    pub walk-room : j * g .b + g .b ≤ length out
+    walk-room = fits j n (g .b) out (W .size) h
+
+    pub walk-turn : (o : List ℕ) (y k : ℕ) → length (f x i) ≡ g .b → o ≡ put (g .b) j (f x i) out → y * g .d + k ≡ x * g .d + i + 1 → k < g .d
+        → Walked g f a n (j + 1) y k o
+    walk-turn o y k size e next low =
+        let at = spot-is (a + j) (g .d) x i (W .spot) (W .index) in
+        let is : f x i ≡ wanted g f a j = ap₂ f (at .0) (at .1) in
+        let turn = filled-turn (g .b) n (wanted g f a) j out o (W .size) h (ap length (sym is) ∙ size) (W .filled) (put-as (g .b) j out (f x i) (wanted g f a j) o e is) in
+        record { so-far = omega (arith, h); size = turn .0; spot = omega (arith, next, W .spot); index = low; filled = turn .1 }
+
+  pub walk-end : (j x i : ℕ) (out : List ℕ) → Walked g f a n j x i out → j ≡ n → out ≡ bufferOf g f a n
+  unfolding bufferOf
+  walk-end j x i out W e = blocksOf-back n (g .b) (wanted g f a) out (W .size) (λ k h. sym (W .filled k (omega arith)))
