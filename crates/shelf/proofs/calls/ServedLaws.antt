@@ -18,11 +18,11 @@ use Rattle.stripe.proofs.Laws.{one-to-one}
 use Rattle.shelf.specs.Counting.{choose, first}
 use Rattle.shelf.specs.Members.{InRange, arrayMembers, memberAt, placeAt, addressOf, wanted, otherMissing}
 use Rattle.shelf.specs.State.{isSome, stale}
-use Rattle.shelf.specs.Status.{read, fetch, arrayFailed, badAddress, blockRows, withheld, fetchWithheld, readFailed, codeOf}
+use Rattle.shelf.specs.Status.{arrayFailed, badAddress, blockRows, withheld, fetchWithheld, readFailed}
 use Rattle.shelf.specs.Calls.{orElse}
 use Rattle.shelf.specs.Words.{words}
 use Rattle.shelf.specs.HashList.{Entry, entry, entryIn, noneWord, oriAt, curAt, lookup, said, valid, listedIn, staleIn}
-use Rattle.shelf.specs.Lent.{lent, recordAt, oriBy, listedBy, flagAt, inputRows, triesList, numberOf}
+use Rattle.shelf.specs.Lent.{lent, recordAt, oriBy, listedBy, flagAt, inputRows}
 use Rattle.shelf.specs.Records.{failedRole}
 use Rattle.shelf.specs.Reading.{ListReady, Ready, latest, originalPlace, missingBy}
 use Rattle.shelf.specs.declared.record.Geometry.{Geometry}
@@ -287,10 +287,6 @@ wanted-sound r pos e a j =
 pub none-failed : (r : Shelf) → 0 < r .geometry .d → arrayFailed (r .geometry) (flagAt r) ≡ false → (a n : ℕ) → readFailed (r .geometry) (flagAt r) a n ≡ false
 none-failed r pos e a n = none-any n (wanted (r .geometry) (failedRole r) a) (λ j _. wanted-sound r pos e a j)
 
--- a test as it came out
-pub as-tested : (t u v : Bool) → t ≡ u → t ≡ v → u ≡ v
-as-tested t u v e q = sym e ∙ q
-
 -- ---- the rows of read and fetch, and what an accepted one gives its functions
 
 pub address-within : (g : Geometry) (a n : ℕ) → badAddress g a n ≡ false → a + n ≤ g .d * g .s
@@ -314,24 +310,10 @@ list-ready r na nl l P =
 -- an accepted call on blocks, whatever is tried after rows 4 and 5, has passed rows 1 to 3 and has its blocks
 pub blocks-ready : (r : Shelf) (a n l : List ℕ) (at count len rest : ℕ)
     → inputRows r (length a) (length n) l true (blockRows (r .geometry) at count len rest) ≡ 0
-    → Ready (lent r a n l) × ((at + count ≤ r .geometry .d * r .geometry .s) × ((len ≡ count * r .geometry .b) × (rest ≡ 0)))
+    → Ready (lent r a n l) × ((at + count ≤ r .geometry .d * r .geometry .s) × (len ≡ count * r .geometry .b))
 blocks-ready r a n l at count len rest z =
     let P = inputs-pass r (length a) (length n) l _ z in
     let four = blocks-zero (r .geometry) at count len rest (P .1) in (
       record { listing = list-ready r (length a) (length n) l (P .0); array = P .0 .array; log = P .0 .log },
-      (
-        address-within (r .geometry) at count (four .0),
-        (eqb-true len (count * r .geometry .b) (not-off (eqb len (count * r .geometry .b)) (four .1 .0)), four .1 .1),
-      ),
+      (address-within (r .geometry) at count (four .0), eqb-true len (count * r .geometry .b) (not-off (eqb len (count * r .geometry .b)) (four .1 .0))),
     )
-
-module _ (r : Shelf) (a n l : List ℕ) (at count len code : ℕ) where
-  pub read-ready : code ≡ numberOf r (length a) (length n) l (read at count len) → code ≡ 0
-      → Ready (lent r a n l) × ((at + count ≤ r .geometry .d * r .geometry .s) × (len ≡ count * r .geometry .b))
-  unfolding numberOf triesList codeOf
-  read-ready e z = let y = blocks-ready r a n l at count len _ (sym e ∙ z) in (y .0, (y .1 .0, y .1 .1 .0))
-
-  pub fetch-ready : code ≡ numberOf r (length a) (length n) l (fetch at count len) → code ≡ 0
-      → Ready (lent r a n l) × ((at + count ≤ r .geometry .d * r .geometry .s) × (len ≡ count * r .geometry .b))
-  unfolding numberOf triesList codeOf
-  fetch-ready e z = let y = blocks-ready r a n l at count len _ (sym e ∙ z) in (y .0, (y .1 .0, y .1 .1 .0))

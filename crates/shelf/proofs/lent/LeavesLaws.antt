@@ -14,7 +14,7 @@ use lib.Seq.{getD-set-same, getD-set-other}
 use Rattle.shelf.specs.Counting.{choose, setAt}
 use Rattle.shelf.specs.Members.{logMember}
 use Rattle.shelf.specs.State.{State, listed, marksIn}
-use Rattle.shelf.specs.Status.{Call, start, fail, read, fetch, newLog, codeOf}
+use Rattle.shelf.specs.Status.{Call, start, fail, newLog, codeOf}
 use Rattle.shelf.specs.Calls.{modeWithout, work}
 use Rattle.shelf.specs.HashList.{valid}
 use Rattle.shelf.specs.Lent.{Lent, lent, flag, flagAt, stateOf, arrayBlock, roleBlock, flagsOf, inputRows, listedBy, numberOf, triesList, Leaves, Answered}
@@ -94,8 +94,8 @@ module _ (r : Shelf) (a n l : List ℕ) (len : length (r .failed) ≡ 19) (bytes
         refused = λ z. absurd (z refl);
       }
 
-  -- a call that leaves what is lent as it is
-  kept-answered : (c : Call) → work (r .geometry) c (stateOf (lent r a n l)) ≡ stateOf (lent r a n l) → triesList c ≡ true
+  -- read and fetch: what is lent stays as it is
+  pub kept-answered : (c : Call) → work (r .geometry) c (stateOf (lent r a n l)) ≡ stateOf (lent r a n l) → triesList c ≡ true
       → 0 ≡ numberOf r (length a) (length n) l c → Answered (lent r a n l) c 0 (lent r a n l)
   unfolding numberOf stateOf
   kept-answered c same three e =
@@ -108,12 +108,6 @@ module _ (r : Shelf) (a n l : List ℕ) (len : length (r .failed) ≡ 19) (bytes
             (leaves-here r a n l P bytes (r .mode) (r .failed) (flagAt r) (same-flags (r .failed) len));
         refused = λ z. absurd (z refl);
       }
-
-  pub read-answered : (at count k : ℕ) → 0 ≡ numberOf r (length a) (length n) l (read at count k) → Answered (lent r a n l) (read at count k) 0 (lent r a n l)
-  read-answered at count k e = unfold work triesList in kept-answered (read at count k) refl refl e
-
-  pub fetch-answered : (at count k : ℕ) → 0 ≡ numberOf r (length a) (length n) l (fetch at count k) → Answered (lent r a n l) (fetch at count k) 0 (lent r a n l)
-  fetch-answered at count k e = unfold work triesList in kept-answered (fetch at count k) refl refl e
 
   pub fail-answered : (j : ℕ) → j < 19 → 0 ≡ numberOf r (length a) (length n) l (fail j) → Answered (lent r a n l) (fail j) 0 (lent (withFailed r j) a n l)
   unfolding numberOf work triesList stateOf

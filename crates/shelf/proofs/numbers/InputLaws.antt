@@ -18,7 +18,7 @@ use Rattle.shelf.specs.HashList.{Measures, valid}
 use Rattle.shelf.specs.Lent.{flagAt, flagFrom, outside, badMeasures, badRecord, badLengths, badList, arrayLength, logLength, listLength, triesList, inputRows, listedBy, numberOf}
 use Rattle.shelf.specs.declared.record.Geometry.{Geometry}
 use Rattle.shelf.specs.declared.record.Shelf.{Shelf}
-use Rattle.shelf.proofs.numbers.TableRows.{row-zero, row-pass, row-same, row-other}
+use Rattle.shelf.proofs.numbers.TableRows.{row-zero, row-pass, row-same, row-below}
 use Rattle.shelf.proofs.general.TestLaws.{not-off, and-fine, or-left, or-right}
 
 -- ---- measures
@@ -200,19 +200,11 @@ inputs-refuse r na nl l three rest e =
     (row-same 2 (badLengths (r .geometry) na nl (length l)) _ _ (λ z. omega arith)
     (row-same 3 (three && badList r l) 0 rest (λ z. omega arith) (λ z. absurd (z refl))))) e)
 
--- a number above 3 is the rest's, and rows 1 to 3 pass
-pub inputs-other : (r : Shelf) (na nl : ℕ) (l : List ℕ) (three : Bool) (rest m : ℕ) → 3 < m → inputRows r na nl l three rest ≡ m
-    → (rest ≡ m) × (inputRows r na nl l three 0 ≡ 0)
+-- they give no number above 3
+pub inputs-low : (r : Shelf) (na nl : ℕ) (l : List ℕ) (three : Bool) → inputRows r na nl l three 0 < 4
 unfolding inputRows
-inputs-other r na nl l three rest m h e =
-    let a = row-other 1 m (badMeasures (r .geometry)) _ (λ z. omega arith) e in
-    let b = row-other 1 m (badRecord r) _ (λ z. omega arith) (a .1) in
-    let c = row-other 2 m (badLengths (r .geometry) na nl (length l)) _ (λ z. omega arith) (b .1) in
-    let d = row-other 3 m (three && badList r l) rest (λ z. omega arith) (c .1) in (
-      d .1,
-      sym (row-pass 1 (badMeasures (r .geometry)) _ 0 (a .0) (row-pass 1 (badRecord r) _ 0 (b .0)
-          (row-pass 2 (badLengths (r .geometry) na nl (length l)) _ 0 (c .0) (row-pass 3 (three && badList r l) 0 0 (d .0) refl)))),
-    )
+inputs-low r na nl l three =
+    row-below 1 4 _ _ (omega arith) (row-below 1 4 _ _ (omega arith) (row-below 2 4 _ _ (omega arith) (row-below 3 4 _ 0 (omega arith) (omega arith))))
 
 -- where they pass, a call's number is that of its own rows
 pub passed-number : (r : Shelf) (na nl : ℕ) (l : List ℕ) → Passed r na nl l → (c : Call)

@@ -1,11 +1,9 @@
 -- `shelf::status::rebuild_rows` meets its contract: each return is the first row that applies.
 -- Assumes nothing.
-use mathlib.Core.Bool.{true, false}
 use mathlib.Core.Path.{_∙_, refl, sym}
 use Rattle.shelf.specs.Lent.{flagAt, listedBy}
 use Rattle.shelf.specs.Status.{dataWithheld}
 use Rattle.shelf.proofs.calls.RebuildLaws.{none-by-list, none-by-log, rows-failed, rows-sound}
-use Rattle.shelf.proofs.calls.ServedLaws.{as-tested}
 use Rattle.shelf.proofs.general.TestLaws.{not-off, not-on}
 use Rattle.shelf.proofs.numbers.TableRows.{row-hit, row-pass}
 use Rattle.shelf.proofs.status.rebuild_rows.Statement.{statement}
@@ -41,13 +39,13 @@ returns-4 : tie.Need-returns-4
 returns-4 c =
     let a = c .before .before .before .before .before .before .before .before .before in
     rows-failed (a .args .shelf) (a .args .list .now) (c .before .before .before .before .before .before .before .array-failed .result) (c .before .before .before .before .before .before .before .array-failed .ensures) (c .before .before .before .before .before .before .if1 .left) 14
-    (row-hit 14 (dataWithheld (a .args .shelf .geometry) (flagAt (a .args .shelf)) (listedBy (a .args .shelf .geometry) (a .args .list .now))) 0 (as-tested (c .before .data-withheld .result) (dataWithheld (a .args .shelf .geometry) (flagAt (a .args .shelf)) (listedBy (a .args .shelf .geometry) (a .args .list .now))) true (c .before .data-withheld .ensures) (c .if4 .taken)))
+    (row-hit 14 (dataWithheld (a .args .shelf .geometry) (flagAt (a .args .shelf)) (listedBy (a .args .shelf .geometry) (a .args .list .now))) 0 (sym (c .before .data-withheld .ensures) ∙ c .if4 .taken))
 
 returns-5 : tie.Need-returns-5
 returns-5 c =
     let a = c .before .before .before .before .before .before .before .before .before in
     rows-failed (a .args .shelf) (a .args .list .now) (c .before .before .before .before .before .before .before .array-failed .result) (c .before .before .before .before .before .before .before .array-failed .ensures) (c .before .before .before .before .before .before .if1 .left) 0
-    (row-pass 14 (dataWithheld (a .args .shelf .geometry) (flagAt (a .args .shelf)) (listedBy (a .args .shelf .geometry) (a .args .list .now))) 0 0 (as-tested (c .before .data-withheld .result) (dataWithheld (a .args .shelf .geometry) (flagAt (a .args .shelf)) (listedBy (a .args .shelf .geometry) (a .args .list .now))) false (c .before .data-withheld .ensures) (c .if4 .left)) refl)
+    (row-pass 14 (dataWithheld (a .args .shelf .geometry) (flagAt (a .args .shelf)) (listedBy (a .args .shelf .geometry) (a .args .list .now))) 0 0 (sym (c .before .data-withheld .ensures) ∙ c .if4 .left) refl)
 
 pub rebuild-rows-spec : {M : Type 1} → statement M
 rebuild-rows-spec =
