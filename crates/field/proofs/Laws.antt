@@ -10,8 +10,6 @@ pub use Rattle.field.proofs.ProductLaws.{xor-byte}
 -- Doubling is linear, and is the product with 2.
 pub use Rattle.field.proofs.ProductLaws.{double-byte, double-zero, double-xor, double-times, times-double-l}
 -- The product associates, commutes, distributes over the sum on both sides, has 0 and 1 as it should, and every element but 0 has an inverse.
-pub use Rattle.field.proofs.ProductLaws.{times-byte, times-assoc, times-comm, times-xor-l, times-xor-r, times-zero-l, times-zero-r, one-times, times-one-r, inverse-byte, times-inverse, times-cancel}
+pub use Rattle.field.proofs.ProductLaws.{times-byte, times-assoc, times-comm, times-xor-l, times-xor-r, times-zero-l, times-zero-r, one-times, inverse-byte, times-inverse, times-cancel}
 -- Powers of 2: by doubling, their products, and that no two below the 255th are equal, so that two different weights have a sum that is not 0.
 pub use Rattle.field.proofs.ProductLaws.{pow2-byte, pow2-zero, pow2-suc, pow2-add, pow2-positive, pow2-inj, pow2-differ}
--- A table tested over all its entries has at each of them what its rule says.
-pub use Rattle.field.proofs.Table.{at}

@@ -6,7 +6,7 @@ use mathlib.Core.Path.{_≡_, refl, sym, ap, ap₂, _∙_, subst}
 use Prim.Native.Nat.{ℕ, zero, suc, _+_, _*_, _-_, _/_, _%_, _<_, _≤_}
 use native.Mathlib.Nat.{zero-lt-suc, zero-mul, one-mul, mul-zero, suc-add, zero-add, add-comm, add-assoc, add-zero, sub-add-cancel}
 use native.Mathlib.Omega.{arith}
-use lib.Bits.{bitXor, xor-lt, xor-mod, xor-shr, xor-zero-r}
+use lib.Bits.{bitXor, xor-lt, xor-mod, xor-shr}
 use lib.Dec.{eqb, eqb→eq, lit<}
 use lib.ListN.{getD}
 use Rattle.field.specs.Field.{double, pow2, timesLow, times, raised, inverse}
@@ -231,10 +231,6 @@ double-times a h = sym (ap (λ (k : ℕ). times k a) two ∙ times-double-l 1 a 
   where
     two : 2 ≡ double 1
     two = unfold double in refl
-
-pub times-one-r : (a : ℕ) → times a 1 ≡ a
-unfolding times timesLow
-times-one-r a = ap₂ bitXor (one-mul a) (low-zero-r 7 (double a)) ∙ xor-zero-r a
 
 pub pow2-positive : (n : ℕ) → n ≤ 255 → 0 < pow2 n
 pow2-positive n h = go (pow2 n) refl

@@ -7,7 +7,7 @@
 mod tables;
 
 ghost use mathlib.Core.Path.{_≡_};
-ghost use Prim.Native.Nat.{_<_};
+ghost use Prim.Native.Nat.{_≤_, _<_};
 ghost use lib.ListN.{length};
 ghost use Rattle.field.specs.Field.{double, pow2, times, inverse, Multiples, Powers, Logarithms};
 
@@ -39,9 +39,9 @@ pub fn inv(a: u8) -> u8
     powers[255 - logarithm(&logarithms, a)]
 }
 
-// Fills t, of 256 bytes, with c times each byte.
+// Fills the first 256 bytes of t with c times each byte.
 pub fn fill_multiples(c: u8, t: &mut [u8])
-    requires { ⌜ length (now t) ≡ 256 ⌝ }
+    requires { ⌜ 256 ≤ length (now t) ⌝ }
     ensures { λ _. ⌜ Multiples c (now (t .exit)) ⌝ }
 {
     let powers = tables::POWERS;

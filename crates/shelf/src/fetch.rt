@@ -34,7 +34,7 @@ pub fn fetch_blocks(
         return;
     }
     let mut work = [0u8; 4096];
-    let mut products = [0u8; 256];
+    let mut products = [0u8; 258];
     fetch_each(
         shelf,
         a,
@@ -48,7 +48,7 @@ pub fn fetch_blocks(
     );
 }
 
-// Does the same block by block, with a working block work of b bytes; the table of products may be any constant's.
+// Does the same block by block, with a working block work of b bytes; the table of products may be that of any pair of missing blocks.
 fn fetch_each(
     shelf: record::Shelf,
     a: usize,

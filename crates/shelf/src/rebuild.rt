@@ -25,7 +25,7 @@ pub fn rebuild_array(shelf: record::Shelf, array: &mut [u8], log: &[u8], list: &
 {
     let g = shelf.geometry;
     let mut work = [0u8; 4096];
-    let mut products = [0u8; 256];
+    let mut products = [0u8; 258];
     rebuild_stripes(shelf, array, log, list, &mut work[..g.b], &mut products);
 }
 

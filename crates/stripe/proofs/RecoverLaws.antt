@@ -21,7 +21,7 @@ use Rattle.stripe.proofs.Lists.{less-or-not, length-gen, gen-ext}
 use Rattle.stripe.proofs.BlockLaws.{fits, ext-bytes, length-put, getD-put-in, block-whole}
 use Rattle.stripe.proofs.Sums.{same-or-not, pick-same, pick-other, pick-less, pick-not-less, without-other, without-ext}
 use Rattle.stripe.proofs.ColumnLaws.{made-data, made-p, made-q, parityP-ext, parityQ-ext, solved-ignores, second-of-two, restP-ext, standIn-plain, recovered-other}
-use Rattle.stripe.proofs.SolveLaws.{by-q, standIn-first, standIn-second, standIn-other}
+use Rattle.stripe.proofs.SolveLaws.{by-p, by-q, standIn-first, standIn-second, standIn-other}
 use Rattle.stripe.proofs.PlaceLaws.{byColumn-ext}
 use Rattle.stripe.proofs.CallLaws.{put-column, made-alone}
 use Rattle.stripe.proofs.StripeTheorems.{length-changed, byte-changed}
@@ -386,6 +386,12 @@ workable-after {d} {b} k v ek ev ok =
 -- two steps in a row
 pub in-a-row : (f g : (ℕ → ℕ) → ℕ → ℕ) (d b : ℕ) (l m n : List ℕ) → m ≡ eachColumn f d b l → n ≡ eachColumn g d b m → n ≡ eachColumn g d b (eachColumn f d b l)
 in-a-row f g d b l m n em en = en ∙ ap (eachColumn g d b) em
+
+-- x as the sum of what is missing, where it comes from P
+pub data-from-p : (d b x y : ℕ) (l n : List ℕ) → (x ≡ y) ⊎ (d < y) → n ≡ eachColumn (replaced x (restP d x x)) d b l → n ≡ eachColumn (replaced x (solved d x y)) d b l
+unfolding replaced
+data-from-p d b x y l n way e =
+    e ∙ changed-ext (replaced x (restP d x x)) (replaced x (solved d x y)) d b l (λ j i p q. ap (λ (v : ℕ). pick (eqb i x) v (byteOf b l i j)) (by-p d x y (λ k. byteOf b l k j) way))
 
 -- the stripe after the step of the data: two blocks of it missing, one, none
 module _ (d b x y : ℕ) (l : List ℕ) where

@@ -169,7 +169,7 @@ by-q d x y D ne h = ⊎-elim both no-p (less-or-not y d)
         ∙ sym (solved-no-p d x y D ne (omega arith))
 
 -- x from P
-by-p : (d x y : ℕ) (D : ℕ → ℕ) → (x ≡ y) ⊎ (d < y) → restP d x x D ≡ solved d x y D
+pub by-p : (d x y : ℕ) (D : ℕ → ℕ) → (x ≡ y) ⊎ (d < y) → restP d x x D ≡ solved d x y D
 unfolding fromP
 by-p d x y D w =
     ⊎-elim (λ e. sym (solved-same d x y D e))

@@ -43,15 +43,6 @@ doubled x j = double (getD x j 0)
 unfoldable pub scaled : ℕ → List ℕ → ℕ → ℕ
 scaled c x j = times c (getD x j 0)
 
--- A table of products tells its own constant by its entry 1. A table of zeros is that of 0.
-unfoldable pub constant : List ℕ → ℕ
-constant t = getD t 1 0
-
--- entry k of the table is its constant times k, for every byte k
-pub record Products (t : List ℕ) : Type 0 where
-  pub long : length t ≡ 256
-  pub multiples : Multiples (constant t) t
-
 -- a place out of the w bytes from at on
 abbrev pub Outside : ℕ → ℕ → ℕ → Type 0
 Outside i at w = (i < at) ⊎ (at + w ≤ i)
@@ -127,6 +118,16 @@ comesFromP d x y = eqb x y || ltb d y
 
 unfoldable pub coefficient : ℕ → ℕ → ℕ → ℕ
 coefficient d x y = pick (ltb y d) (bitXor (weight x) (weight y)) (weight x)
+
+-- A table of products tells by the two bytes behind its entries which constant is its own: the inverse of that coefficient for data x and y, y being
+-- 16 where it is not data. A table of zeros is that of 0: equal weights add up to 0, whose inverse is 0 here.
+unfoldable pub constant : List ℕ → ℕ
+constant t = inverse (coefficient 16 (getD t 256 0) (getD t 257 0))
+
+-- entry k of the table is its constant times k, for every byte k
+pub record Products (t : List ℕ) : Type 0 where
+  pub long : length t ≡ 258
+  pub multiples : Multiples (constant t) t
 
 -- byte j of w with f's added, divided by that coefficient
 unfoldable pub quotient : ℕ → ℕ → ℕ → (ℕ → ℕ) → List ℕ → ℕ → ℕ

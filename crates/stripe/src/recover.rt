@@ -113,8 +113,12 @@ fn recover_one(
     requires { ⌜ Workable d b (now stripe) (now work) (now ns) × (x < d) ⌝ }
     ensures { λ _. ⌜ now (stripe .exit) ≡ eachColumn (replaced x (solved d x y)) d b (now (stripe .entry)) ⌝ }
 {
+    if solve::comes_from_p(d, x, y) {
+        put_sum(stripe, work, ns, d, b, x, x);
+        return;
+    }
     let none = [0u8; 0];
-    let mut products = [0u8; 256];
+    let mut products = [0u8; 258];
     solve::solve(stripe, &none, d + 2, ns, work, &mut products, d, b, x, y);
     blocks::copy_block(work, 0, stripe, x, b);
 }
@@ -136,7 +140,8 @@ fn recover_two(
     split_sum(stripe, work, ns, d, b, x, y);
 }
 
-// Puts the sum of the missing data x and y in y's place: P with the data that is there.
+// Puts the sum of the missing data, x and y or y alone where x is y, in y's place: P with the data
+// that is there.
 fn put_sum(stripe: &mut [u8], work: &mut [u8], ns: &[usize], d: usize, b: usize, x: usize, y: usize)
     requires { ⌜ Workable d b (now stripe) (now work) (now ns) × (y < d) ⌝ }
     ensures { λ _. ⌜ now (stripe .exit) ≡ eachColumn (replaced y (restP d x y)) d b (now (stripe .entry)) ⌝ }
@@ -160,7 +165,7 @@ fn split_sum(
     ensures { λ _. ⌜ now (stripe .exit) ≡ eachColumn (replaced y (sumOf x y)) d b (eachColumn (replaced x (ofSum d x y)) d b (now (stripe .entry))) ⌝ }
 {
     let none = [0u8; 0];
-    let mut products = [0u8; 256];
+    let mut products = [0u8; 258];
     solve::solve_of_sum(stripe, &none, d + 2, ns, work, &mut products, d, b, x, y);
     blocks::copy_block(work, 0, stripe, x, b);
     solve::add_block(stripe, &none, d + 2, ns[y], work, b);

@@ -3,8 +3,9 @@
 // The blocks of the stripe are told by a table of block numbers: those below n are blocks of the
 // array, those from n on are records of the log. In the contracts they are the blocks of one
 // buffer, the array with the log behind it. The sum of a block is gathered in work, of b bytes. The
-// table of products may be any constant's: it is filled anew only where another is needed, so that a
-// caller who lends it again has it filled once.
+// table of products may be that of any pair of missing blocks: weights, inverse and products are
+// worked out only where those of another pair are needed, so that a caller who lends it again has
+// them worked out once for a pair.
 use super::blocks;
 use super::rows;
 use super::weights;
@@ -12,10 +13,11 @@ ghost use mathlib.Core.Path.{_≡_};
 ghost use mathlib.Core.List.{_++_};
 ghost use Prim.Native.Nat.{_+_, _*_, _≤_, _<_};
 ghost use lib.ListN.{length};
+ghost use Rattle.field.specs.Field.{inverse};
 ghost use Rattle.stripe.specs.Blocks.{gen};
 ghost use Rattle.stripe.specs.Parity.{restP, solved};
 ghost use Rattle.stripe.specs.Places.{numbered, byColumn};
-ghost use Rattle.stripe.specs.Steps.{Gathers, taken, plus, twicePlus, there, thereP, standing, standingQ, comesFromP, coefficient, quotient, ofSum, Products};
+ghost use Rattle.stripe.specs.Steps.{Gathers, taken, plus, twicePlus, there, thereP, standing, standingQ, comesFromP, coefficient, constant, quotient, ofSum, Products};
 
 // Recovers data block x in work, where y is missing too or is x itself.
 pub fn solve(
@@ -78,13 +80,12 @@ fn divide(
     ensures { λ _. ⌜ (now (work .exit) ≡ gen b (quotient d x y (taken (numbered (now (ns .entry)) (d + 1) * b) (now (array .entry) ++ now (log .entry))) (now (work .entry)))) × Products (now (products .exit)) ⌝ }
 {
     add_block(array, log, n, ns[d + 1], work, b);
-    let c = field::inv(coefficient_of(d, x, y));
-    rows::fit_products(products, c);
+    fit_products(products, d, x, y);
     rows::scale_row(work, products, b);
 }
 
 // Whether data block x comes from P where y is missing too.
-fn comes_from_p(d: usize, x: usize, y: usize) -> bool
+pub fn comes_from_p(d: usize, x: usize, y: usize) -> bool
     ensures { λ r. ⌜ r ≡ comesFromP d x y ⌝ }
 {
     if x == y {
@@ -103,6 +104,47 @@ fn coefficient_of(d: usize, x: usize, y: usize) -> u8
         return weights::weight_of(x) ^ weights::weight_of(y);
     }
     weights::weight_of(x)
+}
+
+// Makes t the table that divides by what coefficient_of says. Two data blocks are one pair,
+// whichever of them is recovered; 16 stands for a y that is not data.
+fn fit_products(t: &mut [u8], d: usize, x: usize, y: usize)
+    requires { ⌜ Products (now t) × ((d ≤ 16) × ((x < d) × (y ≤ d))) ⌝ }
+    ensures { λ _. ⌜ Products (now (t .exit)) × (constant (now (t .exit)) ≡ inverse (coefficient d x y)) ⌝ }
+{
+    if d <= y {
+        fit_pair(t, x, 16);
+        return;
+    }
+    if y < x {
+        fit_pair(t, y, x);
+        return;
+    }
+    fit_pair(t, x, y);
+}
+
+// Makes t the table of the pair x and y. It is filled only where it is another pair's.
+fn fit_pair(t: &mut [u8], x: usize, y: usize)
+    requires { ⌜ Products (now t) × ((x < 16) × (y ≤ 16)) ⌝ }
+    ensures { λ _. ⌜ Products (now (t .exit)) × (constant (now (t .exit)) ≡ inverse (coefficient 16 x y)) ⌝ }
+{
+    if t[256] as usize != x {
+        fill_pair(t, x, y);
+        return;
+    }
+    if t[257] as usize != y {
+        fill_pair(t, x, y);
+    }
+}
+
+// Fills t for the pair x and y: works out its weights, the inverse of their sum and the products.
+fn fill_pair(t: &mut [u8], x: usize, y: usize)
+    requires { ⌜ (length (now t) ≡ 258) × ((x < 16) × (y ≤ 16)) ⌝ }
+    ensures { λ _. ⌜ Products (now (t .exit)) × (constant (now (t .exit)) ≡ inverse (coefficient 16 x y)) ⌝ }
+{
+    field::fill_multiples(field::inv(coefficient_of(16, x, y)), t);
+    t[256] = x as u8;
+    t[257] = y as u8;
 }
 
 // Gathers P and the data blocks but x and y in work: the sum of the missing data.

@@ -23,7 +23,7 @@ fill-step t k v f h all e =
     (getD-set-same t k v 0 h ∙ e)
 
 abbrev Inv-loop : tie.InvT-loop
-Inv-loop c t₀ powers logarithms k₀ t k = (k ≤ 256) × ((length t ≡ 256) × ((i : ℕ) → i < k → getD t i 0 ≡ times c i))
+Inv-loop c t₀ powers logarithms k₀ t k = (k ≤ 256) × ((length t ≡ length t₀) × ((i : ℕ) → i < k → getD t i 0 ≡ times c i))
 
 abbrev μ-loop : tie.MeasureT-loop
 μ-loop c t₀ powers logarithms k₀ t k = 256 - k
