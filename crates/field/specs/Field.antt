@@ -4,7 +4,7 @@
 -- Assumes nothing.
 use mathlib.Core.List.{List}
 use mathlib.Core.Path.{_≡_}
-use Prim.Native.Nat.{ℕ, zero, suc, _*_, _/_, _%_, _<_}
+use Prim.Native.Nat.{ℕ, zero, suc, _*_, _/_, _%_, _≤_, _<_}
 use lib.Bits.{bitXor}
 use lib.ListN.{getD}
 
@@ -40,6 +40,10 @@ inverse a = raised 254 a
 -- entry k of t is c times k, for every byte k
 abbrev pub Multiples : ℕ → List ℕ → Type 0
 Multiples c t = (k : ℕ) → k < 256 → getD t k 0 ≡ times c k
+
+-- from place n on t has what t₀ has
+abbrev pub SameFrom : ℕ → List ℕ → List ℕ → Type 0
+SameFrom n t₀ t = (k : ℕ) → n ≤ k → getD t k 0 ≡ getD t₀ k 0
 
 -- entry n of t is 2 to the power n, for n below 256
 abbrev pub Powers : List ℕ → Type 0

@@ -9,7 +9,7 @@ mod tables;
 ghost use mathlib.Core.Path.{_≡_};
 ghost use Prim.Native.Nat.{_≤_, _<_};
 ghost use lib.ListN.{length};
-ghost use Rattle.field.specs.Field.{double, pow2, times, inverse, Multiples, Powers, Logarithms};
+ghost use Rattle.field.specs.Field.{double, pow2, times, inverse, Multiples, SameFrom, Powers, Logarithms};
 
 // Twice a.
 pub fn twice(a: u8) -> u8
@@ -39,10 +39,10 @@ pub fn inv(a: u8) -> u8
     powers[255 - logarithm(&logarithms, a)]
 }
 
-// Fills the first 256 bytes of t with c times each byte.
+// Fills the first 256 bytes of t with c times each byte. The rest of t stays.
 pub fn fill_multiples(c: u8, t: &mut [u8])
     requires { ⌜ 256 ≤ length (now t) ⌝ }
-    ensures { λ _. ⌜ Multiples c (now (t .exit)) ⌝ }
+    ensures { λ _. ⌜ Multiples c (now (t .exit)) × SameFrom 256 (now (t .entry)) (now (t .exit)) ⌝ }
 {
     let powers = tables::POWERS;
     let logarithms = tables::LOGARITHMS;

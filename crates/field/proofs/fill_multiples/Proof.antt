@@ -1,4 +1,4 @@
--- `field::fill_multiples` meets its contract. The loop's invariant: each entry passed is c times its index.
+-- `field::fill_multiples` meets its contract. The loop's invariant: each entry passed is c times its index, and the others are as they were.
 -- Assumes nothing.
 use mathlib.Core.List.{List}
 use mathlib.Core.Path.{subst, _∙_, _≡_}
@@ -9,7 +9,7 @@ use lib.ListN.{set, length-set, length, getD}
 use lib.Seq.{getD-set-same, getD-set-other}
 use borrow.Author.Count.{below-more}
 use borrow.Author.Needs.{needs}
-use Rattle.field.specs.Field.{times}
+use Rattle.field.specs.Field.{times, SameFrom}
 use Rattle.field.proofs.TableRules.{powers, logarithms, powers-hold, logarithms-hold}
 use Rattle.field.proofs.fill_multiples.Statement.{statement}
 use Rattle.field.proofs.fill_multiples.Tie as tie
@@ -23,7 +23,7 @@ fill-step t k v f h all e =
     (getD-set-same t k v 0 h ∙ e)
 
 abbrev Inv-loop : tie.InvT-loop
-Inv-loop c t₀ powers logarithms k₀ t k = (k ≤ 256) × ((length t ≡ length t₀) × ((i : ℕ) → i < k → getD t i 0 ≡ times c i))
+Inv-loop c t₀ powers logarithms k₀ t k = (k ≤ 256) × ((length t ≡ length t₀) × (((i : ℕ) → i < k → getD t i 0 ≡ times c i) × SameFrom k t₀ t))
 
 abbrev μ-loop : tie.MeasureT-loop
 μ-loop c t₀ powers logarithms k₀ t k = 256 - k
@@ -57,13 +57,13 @@ loop-again : tie.Need-loop-again Inv-loop μ-loop
 loop-again c =
     let at-loop = c .before .before .before .before .loop in
     let low : at-loop .k < length (at-loop .t) = omega arith in
-    (omega arith, (simp length-set (omega arith), fill-step (at-loop .t) (at-loop .k) _ (times (c .before .before .before .before .before .before .args .c)) low (at-loop .inv .1 .1) (c .product .ensures)))
+    (omega arith, (simp length-set (omega arith), (fill-step (at-loop .t) (at-loop .k) _ (times (c .before .before .before .before .before .before .args .c)) low (at-loop .inv .1 .1 .0) (c .product .ensures), λ i p. getD-set-other (at-loop .t) (at-loop .k) i _ 0 (omega arith) ∙ at-loop .inv .1 .1 .1 i (omega arith))))
 
 same-length : tie.Need-same-length Inv-loop μ-loop
 same-length c = search needs
 
 returns : tie.Need-returns Inv-loop μ-loop
-returns c = λ k h. c .before .loop .inv .1 .1 k (omega arith)
+returns c = (λ k h. c .before .loop .inv .1 .1 .0 k (omega arith), λ k h. c .before .loop .inv .1 .1 .1 k (omega arith))
 
 pub fill-multiples-spec : {M : Type 1} → statement M
 fill-multiples-spec =
