@@ -14,10 +14,9 @@ use borrow.Author.Tests.{lt-ltb, le-leb, lt-leb, leb-true, not-true, ne-eqb}
 use Rattle.lines.specs.declared.requests.Request.{Request}
 use Rattle.lines.specs.declared.requests.Request.the-variants as Request
 use Rattle.lines.proofs.TestLaws.{and-left, and-right}
-use Rattle.shelf.specs.Counting.{choose}
 use Rattle.shelf.specs.Members.{InRange}
 use Rattle.shelf.specs.Status.{Call, write, badAddress, codeOf}
-use Rattle.shelf.specs.Lent.{Lent, flagAt, listedBy, badMeasures, arrayLength, logLength, listLength, triesList, inputRows, numberOf, formatted, formatLeaves, Answered}
+use Rattle.shelf.specs.Lent.{Lent, flagAt, listedBy, badMeasures, arrayLength, logLength, listLength, triesList, inputRows, numberOf, Answered}
 use Rattle.shelf.specs.declared.record.Geometry.{Geometry}
 use Rattle.shelf.specs.declared.record.Shelf.{Shelf}
 use Rattle.shelf.proofs.general.TestLaws.{or-true}
@@ -170,15 +169,6 @@ read-as-asked t h a count n m code h′ f l e x =
     ]
 
 -- ---- the geometry stays
-
-either-geometry : (t : Bool) (a b : Lent) → a .shelf .geometry ≡ b .shelf .geometry → choose t a b .shelf .geometry ≡ b .shelf .geometry
-unfolding choose
-either-geometry true a b e = e
-either-geometry false a b e = refl
-
-pub format-geometry : (h : Lent) → formatLeaves h .shelf .geometry ≡ h .shelf .geometry
-unfolding formatLeaves formatted
-format-geometry h = either-geometry _ (formatted (h .shelf .geometry)) h refl
 
 pub performed-geometry : (q : Request) (h : Lent) (code first : ℕ) (h′ : Lent) → Performed q h code first h′ → h′ .shelf .geometry ≡ h .shelf .geometry
 unfolding Performed

@@ -1,1 +1,4 @@
 pub mod BenchLaws
+pub mod ServeLaws
+pub mod SessionLaws
+pub mod Pieces

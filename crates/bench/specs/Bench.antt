@@ -8,7 +8,6 @@ use lib.Dec.{eqb, leb}
 use lib.ListN.{getD, replicate}
 use Rattle.lines.specs.declared.measures.Measures.{Measures}
 use Rattle.lines.specs.declared.measures.Measures.the-variants.{Six, Unreadable}
-use Rattle.lines.specs.RequestLines.{requestLine}
 use Rattle.lines.specs.declared.answers.Answer.{Answer}
 use Rattle.lines.specs.declared.requests.Request.{Request}
 use Rattle.lines.specs.declared.requests.Request.the-variants as Request
@@ -63,9 +62,3 @@ Performed Request.Unreadable h code first h′ = (code ≡ 15) × ((first ≡ 0)
 -- the answer that is written of an outcome: its code, the record's mode, listed and next after it, the first byte
 abbrev pub answerOf : Outcome → Answer
 answerOf o = record { code = o .code; mode = o .shelf .mode; listed = o .shelf .listed; next = o .shelf .next; first = o .first }
-
--- what a line asks for came of it, with some code and first byte
-pub record Served (line : List ℕ) (h h′ : Lent) : Type 0 where
-  pub code : ℕ
-  pub first : ℕ
-  pub performed : Performed (requestLine line) h code first h′

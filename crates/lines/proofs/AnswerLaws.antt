@@ -175,3 +175,7 @@ puts-within {out} {text} {fin} {e} p l =
     let n : length fin ≡ length text + (length out - e) =
     ap (λ (xs : List ℕ). length xs) (p .holds) ∙ length-append text (drop e out) ∙ ap (λ (k : ℕ). length text + k) (length-drop e out) in
     omega (arith, p .ends)
+
+-- and stands at the start of the buffer
+pub puts-front : {out text fin : List ℕ} {e : ℕ} → Puts out 0 text fin e → take e fin ≡ text
+puts-front {out} {text} {fin} {e} p = ap (take e) (p .holds) ∙ take-at text (drop e out) e (let q = p .ends in omega arith)

@@ -1,4 +1,4 @@
--- The customer's printed lines and corner cases, proved from the definitions by one statement over their list.
+-- The customer's printed lines and corner cases, and what is kept of texts, proved from the definitions by one statement over their list.
 -- Assumes nothing.
 use mathlib.Core.List.{List, [], _∷_}
 use mathlib.Core.Path.{_≡_, refl}
@@ -8,6 +8,7 @@ use Rattle.lines.specs.Fields.{begun, fields, isDigit, allDigits, number
 use Rattle.lines.specs.RequestLines.{writeOf, named, requestOf, requestLine}
 use Rattle.lines.specs.MeasureLines.{measuresOf, measuresLine}
 use Rattle.lines.specs.AnswerLines.{digits, decimal, spelled, nameOf, columns, answerLine, formatLine}
+use Rattle.lines.specs.Held.{onDigit, keptFrom, kept}
 use Rattle.lines.specs.declared.requests.Request.{Request}
 use Rattle.lines.specs.declared.requests.Request.the-variants as Request
 use Rattle.lines.specs.declared.measures.Measures.{Measures}
@@ -19,12 +20,14 @@ pub data Example : Type 0 where
   measured : List ℕ → Measures → Example
   answers : Request → (code mode listed next first : ℕ) → List ℕ → Example
   formats : ℕ → List ℕ → Example
+  keeps : List ℕ → List ℕ → Example
 
 abbrev pub Says : Example → Type 0
 Says (asks line r) = requestLine line ≡ r
 Says (measured line m) = measuresLine line ≡ m
 Says (answers r code mode listed next first line) = answerLine r (record { code = code; mode = mode; listed = listed; next = next; first = first }) ≡ line
 Says (formats code line) = formatLine code ≡ line
+Says (keeps text k) = kept text ≡ k
 
 abbrev pub AllSay : List Example → Type 0
 AllSay [] = Unit {0}
@@ -106,8 +109,20 @@ examples =
     formats 0 (102 ∷ 111 ∷ 114 ∷ 109 ∷ 97 ∷ 116 ∷ 32 ∷ 48 ∷ 32 ∷ 48 ∷ 32 ∷ 48 ∷ 32 ∷ 48 ∷ 32 ∷ 48 ∷ 10 ∷ []) ∷
     -- `format 1 0 0 0 0`
     formats 1 (102 ∷ 111 ∷ 114 ∷ 109 ∷ 97 ∷ 116 ∷ 32 ∷ 49 ∷ 32 ∷ 48 ∷ 32 ∷ 48 ∷ 32 ∷ 48 ∷ 32 ∷ 48 ∷ 10 ∷ []) ∷
+    -- `007 0 00 10`, of which `7 0 0 10` is kept
+    keeps (48 ∷ 48 ∷ 55 ∷ 32 ∷ 48 ∷ 32 ∷ 48 ∷ 48 ∷ 32 ∷ 49 ∷ 48 ∷ []) (55 ∷ 32 ∷ 48 ∷ 32 ∷ 48 ∷ 32 ∷ 49 ∷ 48 ∷ []) ∷
+    -- `0x 00`, of which `0x 0` is kept
+    keeps (48 ∷ 120 ∷ 32 ∷ 48 ∷ 48 ∷ []) (48 ∷ 120 ∷ 32 ∷ 48 ∷ []) ∷
+    -- `00start 1 2 3`, of which `0start 1 2 3` is kept
+    keeps (48 ∷ 48 ∷ 115 ∷ 116 ∷ 97 ∷ 114 ∷ 116 ∷ 32 ∷ 49 ∷ 32 ∷ 50 ∷ 32 ∷ 51 ∷ []) (48 ∷ 115 ∷ 116 ∷ 97 ∷ 114 ∷ 116 ∷ 32 ∷ 49 ∷ 32 ∷ 50 ∷ 32 ∷ 51 ∷ []) ∷
+    -- `100 020 0`, of which `100 20 0` is kept
+    keeps (49 ∷ 48 ∷ 48 ∷ 32 ∷ 48 ∷ 50 ∷ 48 ∷ 32 ∷ 48 ∷ []) (49 ∷ 48 ∷ 48 ∷ 32 ∷ 50 ∷ 48 ∷ 32 ∷ 48 ∷ []) ∷
+    -- ' 0', kept as it is
+    keeps (32 ∷ 48 ∷ []) (32 ∷ 48 ∷ []) ∷
+    -- '0  0 ', kept as it is
+    keeps (48 ∷ 32 ∷ 32 ∷ 48 ∷ 32 ∷ []) (48 ∷ 32 ∷ 32 ∷ 48 ∷ 32 ∷ []) ∷
     []
 
 pub all-say : AllSay examples
-unfolding same begun fields isDigit allDigits numberOf isValue allValues writeOf named requestOf requestLine measuresOf measuresLine digits decimal spelled nameOf columns answerLine formatLine
-all-say = (refl, (refl, (refl, (refl, (refl, (refl, (refl, (refl, (refl, (refl, (refl, (refl, (refl, (refl, (refl, (refl, (refl, (refl, (refl, (refl, (refl, (refl, (refl, (refl, (refl, (refl, (refl, (refl, (refl, (refl, (refl, (refl, (refl, (refl, (refl, (refl, (refl, tt)))))))))))))))))))))))))))))))))))))
+unfolding same begun fields isDigit allDigits numberOf isValue allValues writeOf named requestOf requestLine measuresOf measuresLine digits decimal spelled nameOf columns answerLine formatLine onDigit keptFrom kept
+all-say = (refl, (refl, (refl, (refl, (refl, (refl, (refl, (refl, (refl, (refl, (refl, (refl, (refl, (refl, (refl, (refl, (refl, (refl, (refl, (refl, (refl, (refl, (refl, (refl, (refl, (refl, (refl, (refl, (refl, (refl, (refl, (refl, (refl, (refl, (refl, (refl, (refl, (refl, (refl, (refl, (refl, (refl, (refl, tt)))))))))))))))))))))))))))))))))))))))))))

@@ -21,7 +21,7 @@ use Rattle.lines.proofs.TestLaws.{and-left, and-right, and-false}
 unfoldable pub grown : List ℕ → List (List ℕ) → List (List ℕ)
 grown xs fs = (xs ++ nth fs 0) ∷ drop 1 fs
 
-begun-grown : (x : ℕ) (fs : List (List ℕ)) → begun false x fs ≡ grown (x ∷ []) fs
+pub begun-grown : (x : ℕ) (fs : List (List ℕ)) → begun false x fs ≡ grown (x ∷ []) fs
 unfolding begun grown
 begun-grown x [] = refl
 begun-grown x (f ∷ fs) = refl

@@ -46,3 +46,7 @@ answerLine r a = nameOf r ++ spelled (columns a)
 
 unfoldable pub formatLine : ℕ → List ℕ
 formatLine code = formatName ++ spelled (code ∷ 0 ∷ 0 ∷ 0 ∷ 0 ∷ [])
+
+-- the line of the columns' names, `call code mode listed next first`
+unfoldable pub columnsLine : List ℕ
+columnsLine = 99 ∷ 97 ∷ 108 ∷ 108 ∷ 32 ∷ 99 ∷ 111 ∷ 100 ∷ 101 ∷ 32 ∷ 109 ∷ 111 ∷ 100 ∷ 101 ∷ 32 ∷ 108 ∷ 105 ∷ 115 ∷ 116 ∷ 101 ∷ 100 ∷ 32 ∷ 110 ∷ 101 ∷ 120 ∷ 116 ∷ 32 ∷ 102 ∷ 105 ∷ 114 ∷ 115 ∷ 116 ∷ 10 ∷ []

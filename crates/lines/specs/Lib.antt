@@ -4,3 +4,4 @@ pub mod RequestLines
 pub mod MeasureLines
 pub mod AnswerLines
 pub mod Walking
+pub mod Held

@@ -4,7 +4,7 @@ ghost use mathlib.Core.List.{_∷_};
 ghost use mathlib.Core.Path.{_≡_};
 ghost use Prim.Native.Nat.{_+_, _*_, _≤_};
 ghost use lib.ListN.{length, take};
-ghost use Rattle.lines.specs.AnswerLines.{decimal, spelled, nameOf, answerLine, formatLine};
+ghost use Rattle.lines.specs.AnswerLines.{decimal, spelled, nameOf, answerLine, formatLine, columnsLine};
 ghost use Rattle.lines.specs.Walking.{Puts};
 
 // What a line tells after a call: its number, then the shelf's mode, how many blocks are listed and its next free log record, and the
@@ -44,6 +44,14 @@ pub fn put_format(out: &mut [u8], code: usize) -> usize
     let at = put_word(out, b"format");
     let columns = [code, 0, 0, 0, 0];
     put_numbers(out, at, &columns)
+}
+
+// Puts the line of the columns' names at the start of out, and answers how long it is.
+pub fn put_columns(out: &mut [u8]) -> usize
+    requires { ⌜ 128 ≤ length (now out) ⌝ }
+    ensures { λ r. ⌜ Puts (now (out .entry)) 0 columnsLine (now (out .exit)) r ⌝ }
+{
+    put_word(out, b"call code mode listed next first\n")
 }
 
 // The name of a request; `bad` of a line that can't be read.

@@ -76,7 +76,7 @@ fn value_of(field: &[u8]) -> usize
 }
 
 // Whether a byte is one of the digits 0 to 9.
-fn is_digit(x: u8) -> bool
+pub fn is_digit(x: u8) -> bool
     ensures { λ r. ⌜ r ≡ isDigit x ⌝ }
 {
     if x < 48 {

@@ -4,6 +4,7 @@
 // Every function is proved, and the crate assumes nothing. It knows no shelf: what a line asks for is an enum of numbers.
 pub mod answers;
 mod fields;
+pub mod held;
 pub mod measures;
 mod names;
 pub mod requests;

@@ -2,7 +2,6 @@
 
 use super::damage::{confirm, damaged, Effect, Line, COUNT};
 use super::edges;
-use super::lines::LONGEST;
 use super::model::Bench;
 use super::sound::{calls, joined, losses, measures, of_measures, roomy, Fields};
 use crate::random::Random;
@@ -33,7 +32,7 @@ pub const KINDS: [Kind; 11] = [
     ("with damaged measures", 300, Maker::damaged_measures),
     ("with other names", 200, Maker::other_names),
     ("cut", 300, Maker::cut),
-    ("with long lines", 200, Maker::long),
+    ("with long lines", 400, Maker::long),
     ("with thousands of calls", 8, Maker::many_calls),
     ("with many empty lines", 4, Maker::many_lines),
     ("of loose bytes", 200, Maker::loose),
@@ -181,18 +180,13 @@ impl Maker {
         Ok(whole)
     }
 
-    /// A length at or past the limit of a line.
+    /// A length about that of a buffer that the program may have, or any up to a few of the largest.
     fn long_length(&mut self) -> usize {
         let random = &mut self.random;
-        match random.below(10) {
-            0 | 1 => LONGEST,
-            2 | 3 => LONGEST + 1,
-            4 => LONGEST - 1,
-            5 => LONGEST + 2,
-            6 => LONGEST + pick(6000, random),
-            7 => 2 * LONGEST + pick(4, random),
-            8 => 256 * (1 + pick(200, random)) + pick(3, random) - 1,
-            _ => 1000 + pick(150_000, random),
+        let about = [64, 128, 256, 512, 4_096, 65_536, 131_072][pick(7, random)];
+        match random.below(4) {
+            0 => 1 + pick(200_000, random),
+            _ => about + pick(5, random) - 2,
         }
     }
 
@@ -204,14 +198,13 @@ impl Maker {
         let filler = vec![byte; length.saturating_sub(line.len())];
         match random.below(10) {
             0 => Ok(vec![byte; length]),
-            1 => Ok([vec![byte; LONGEST + 1], line].concat()),
+            1 => Ok([vec![byte; length], line].concat()),
             2 => Ok([line, filler].concat()),
             3 => Ok([filler, line].concat()),
             _ => {
                 let [before, given] = [(); 2].map(|_| Line { fields: fields.clone(), first });
                 let padded = given.padded(length, random);
-                let effect = if padded.len() > LONGEST { Effect::Unreadable } else { Effect::Same };
-                confirm("long line", effect, &before, &padded)?;
+                confirm("long line", Effect::Same, &before, &padded)?;
                 Ok(padded)
             }
         }

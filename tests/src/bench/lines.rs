@@ -4,9 +4,6 @@ use std::str;
 
 use crate::shelf::calls::{Call, Measures};
 
-/// The most bytes of a line that can be read, without its newline.
-pub const LONGEST: usize = 65_536;
-
 /// The lines of an input. A line ends at a newline or at the end of the input; none follows a final newline.
 pub fn lines(input: &[u8]) -> Vec<&[u8]> {
     let mut lines: Vec<&[u8]> = input.split(|&byte| byte == b'\n').collect();
@@ -18,9 +15,6 @@ pub fn lines(input: &[u8]) -> Vec<&[u8]> {
 
 /// The fields of a line, cut at every blank: as many as are asked for, or none.
 fn fields<const N: usize>(line: &[u8]) -> Option<[&[u8]; N]> {
-    if line.len() > LONGEST {
-        return None;
-    }
     line.split(|&byte| byte == b' ').collect::<Vec<&[u8]>>().try_into().ok()
 }
 

@@ -1,5 +1,6 @@
 //! The customer's session, the same with the recovering read, marked examples, rebuilds of parity and both reads side by
-//! side as sessions of the bench program, with the lines that it must write worked out by hand. Blocks have one byte, so
+//! side as sessions of the bench program, with the lines that it must write worked out by hand; and the customer's session in
+//! lines of any length. Blocks have one byte, so
 //! that a read shows a block. The model is not asked.
 
 use super::inputs::NAMES;
@@ -235,9 +236,15 @@ fn with_layout(layout: usize) -> Stored {
     Stored { name: "seven measures", input, output: [COLUMNS, "format 1 0 0 0 0"].map(String::from).to_vec() }
 }
 
-/// The customer's session as it is printed, those worked out by hand, and ones with seven measures.
+/// The customer's session with so many zeros before the first measure and before a value of the first call.
+fn with_zeros(count: usize) -> Stored {
+    let zeros = "0".repeat(count);
+    let measures = INPUT.replacen("3 2 1 4 2 4\n", &format!("{zeros}3 2 1 4 2 4\n"), 1);
+    let input = measures.replacen("start 0 0 0\n", &format!("start 0 0 {zeros}0\n"), 1);
+    Stored { name: "long lines", input, output: OUTPUT.lines().map(String::from).collect() }
+}
+
+/// The customer's session as it is printed and with long lines, those worked out by hand, and ones with seven measures.
 pub fn all() -> Vec<Stored> {
-    let output = OUTPUT.lines().map(String::from).collect();
-    let printed = Stored { name: "the printed session", input: INPUT.into(), output };
-    [printed].into_iter().chain(SESSIONS.iter().map(stored)).chain([0, 1].map(with_layout)).collect()
+    [0, 110, 70_000].map(with_zeros).into_iter().chain(SESSIONS.iter().map(stored)).chain([0, 1].map(with_layout)).collect()
 }
