@@ -1,23 +1,22 @@
--- The agreement of shelf and book: what holds of a shelf's state and its book between any two calls. A fresh shelf agrees with a fresh book, and a
--- shelf goes on agreeing when the bytes of failed members change.
+-- The agreement of shelf and book: what holds of a shelf's state and its book between any two calls. A shelf goes on agreeing when the bytes of
+-- failed members change.
 -- Assumes nothing.
 use mathlib.Core.Bool.{Bool, true, false, _||_}
 use mathlib.Core.List.{List}
 use mathlib.Core.Option.{Option, none, some}
-use mathlib.Core.Path.{_≡_, refl, sym, ap, ap₂, _∙_, subst}
+use mathlib.Core.Path.{_≡_, sym, ap, ap₂, _∙_, subst}
 use Prim.Native.Nat.{ℕ, _≤_, _<_}
 use native.Mathlib.Omega.{arith}
 use Rattle.stripe.proofs.Laws.{one-to-one}
 use lib.ListN.{length}
 use Rattle.shelf.specs.Counting.{count}
-use Rattle.shelf.specs.Members.{InRange, arrayMembers, logMember, allMembers, roleP, roleQ, memberAt, IsBlock, blank, blockP, blockQ}
-use Rattle.shelf.specs.State.{Log, State, isSome, listed, marksIn, freshState}
+use Rattle.shelf.specs.Members.{InRange, arrayMembers, logMember, allMembers, roleP, roleQ, memberAt, IsBlock, blockP, blockQ}
+use Rattle.shelf.specs.State.{Log, State, isSome, listed, marksIn}
 use Rattle.shelf.specs.Status.{arrayFailed, logFailed}
-use Rattle.shelf.specs.Book.{Book, freshBook}
+use Rattle.shelf.specs.Book.{Book}
 use Rattle.shelf.specs.declared.record.Geometry.{Geometry}
-use Rattle.shelf.proofs.general.CountLaws.{any-none, none-count}
-use Rattle.shelf.proofs.agreement.RowParity.{blankP, blankQ, blank-block}
-use Rattle.shelf.proofs.agreement.ListedLaws.{never-some, marksIn-ext, no-marks}
+use Rattle.shelf.proofs.general.CountLaws.{any-none}
+use Rattle.shelf.proofs.agreement.ListedLaws.{marksIn-ext}
 
 -- a block in each place of a table
 abbrev pub AreBlocks : Geometry → (ℕ → ℕ → List ℕ) → Type 0
@@ -110,33 +109,6 @@ held-ext g s b h e A =
           };
       valid = A .valid;
       idle = A .idle;
-    }
-
--- ---- a fresh shelf
-
-pub fresh-agrees : (g : Geometry) → Agrees g (freshState g) (freshBook g)
-unfolding freshState freshBook isSome
-fresh-agrees g =
-    record {
-      near =
-          record {
-            mode = refl;
-            next = refl;
-            failed = refl;
-            marks = λ x i _ _. refl;
-            sound = λ x i _ _ _. refl;
-            helds = λ x i _ _. blank-block g;
-            orig = λ _ _. blank g;
-            origs = λ x i _ _. blank-block g;
-            noted = record { plain = λ x i _ _ _. refl; oris = λ x i _ _ r e. absurd (never-some e); curs = λ x i _ _ r e. absurd (never-some e) };
-            p = λ x _ _. sym (blankP g);
-            q = λ x _ _. sym (blankQ g);
-            whole = λ x i j _ _ _ _ e. e;
-            two = omega (arith, none-count (allMembers g) (λ _. false) (λ i _. refl));
-            one = λ _. refl;
-          };
-      valid = record { room = omega arith; fits = omega (arith, no-marks g); modes = omega arith; zero = λ _. no-marks g; top = λ i _. refl };
-      idle = λ _. (refl, λ e. omega arith);
     }
 
 -- ---- failed members' bytes

@@ -5,15 +5,16 @@ use mathlib.Core.Bool.{Bool, true, false, not, _&&_}
 use mathlib.Core.List.{List}
 use mathlib.Core.Logic.{_≢_}
 use mathlib.Core.Path.{_≡_, sym, ap, ap₂, _∙_, subst}
-use Prim.Native.Nat.{ℕ, _+_, _≤_, _<_}
+use Prim.Native.Nat.{ℕ, _+_, _*_, _≤_, _<_}
 use native.Mathlib.Decide.{decLt}
 use native.Mathlib.Omega.{arith}
 use lib.Dec.{eqb, ltb}
 use lib.ListN.{length, getD, List·getD-eq-default}
 use borrow.Author.Tests.{lt-ltb, eq-eqb, ne-eqb}
-use Rattle.stripe.specs.Blocks.{gen}
+use Rattle.stripe.specs.Blocks.{gen, block}
 use Rattle.stripe.specs.Parity.{made, parityP, parityQ, solved}
-use Rattle.stripe.proofs.Laws.{parityP-ext, parityQ-ext, zeros-obey, made-obeys, made-data, made-p, made-q, solved-exact, length-gen, getD-gen, gen-of, gen-ext}
+use Rattle.stripe.specs.Sound.{AreBytes}
+use Rattle.stripe.proofs.Laws.{parityP-ext, parityQ-ext, zeros-obey, made-obeys, made-data, made-p, made-q, solved-exact, fits, length-block, getD-block, length-gen, getD-gen, gen-of, gen-ext}
 use Rattle.shelf.specs.Counting.{choose, any, first}
 use Rattle.shelf.specs.Members.{IsBlock, blank, column, blockP, blockQ, otherMissing, workedBack, arrayMembers}
 use Rattle.shelf.specs.declared.record.Geometry.{Geometry}
@@ -56,18 +57,28 @@ blankQ g =
     blank-length : (g : Geometry) → length (blank g) ≡ g .b
     blank-length g = unfold blank in length-gen (g .b) (λ _. 0)
 
--- ---- made blocks are blocks
+-- ---- made blocks are blocks, and so are those of a buffer
+
+-- a list of b elements, each of them a byte
+by-bytes : (g : Geometry) (v : List ℕ) → length v ≡ g .b → ((j : ℕ) → j < g .b → getD v j 0 < 256) → IsBlock g v
+by-bytes g v long h = (long, bytes)
+  where
+    bytes : (j : ℕ) → getD v j 0 < 256
+    bytes j =
+        elim (decLt j (g .b)) [
+          | yes p ↦ h j p
+          | no p ↦ subst (λ (n : ℕ). n < 256) (sym (List·getD-eq-default v 0 (omega (arith, long)))) (omega arith)
+        ]
 
 -- a list that is given by bytes
 pub gen-block : (g : Geometry) (f : ℕ → ℕ) → ((j : ℕ) → j < g .b → f j < 256) → IsBlock g (gen (g .b) f)
-gen-block g f h = (length-gen (g .b) f, bytes)
-  where
-    bytes : (j : ℕ) → getD (gen (g .b) f) j 0 < 256
-    bytes j =
-        elim (decLt j (g .b)) [
-          | yes p ↦ subst (λ (n : ℕ). n < 256) (sym (getD-gen (g .b) f j p)) (h j p)
-          | no p ↦ subst (λ (n : ℕ). n < 256) (sym (List·getD-eq-default (gen (g .b) f) 0 (omega (arith, length-gen (g .b) f)))) (omega arith)
-        ]
+gen-block g f h = by-bytes g (gen (g .b) f) (length-gen (g .b) f) (λ j p. subst (λ (n : ℕ). n < 256) (sym (getD-gen (g .b) f j p)) (h j p))
+
+-- a block of a buffer of bytes
+pub cut-block : (g : Geometry) (n N : ℕ) (l : List ℕ) → AreBytes l → length l ≡ N * g .b → n < N → IsBlock g (block (g .b) n l)
+cut-block g n N l bytes long h =
+    by-bytes g (block (g .b) n l) (length-block (g .b) n l (fits n N (g .b) l long h))
+    (λ j p. subst (λ (c : ℕ). c < 256) (sym (getD-block (g .b) n l j p)) (bytes (n * g .b + j)))
 
 pub blank-block : (g : Geometry) → IsBlock g (blank g)
 unfolding blank

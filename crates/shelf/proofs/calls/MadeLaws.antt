@@ -24,7 +24,7 @@ use Rattle.shelf.specs.Words.{words}
 use Rattle.shelf.specs.HashList.{noneWord, Entry, entry, entries, said, valid}
 use Rattle.shelf.specs.Rewriting.{Rewritten, dropStripes, dropStripe}
 pub use Rattle.shelf.specs.Showing.{HoldsArray, HoldsList}
-use Rattle.shelf.specs.Lent.{lent, recordAt, oriBy, curBy, arrayBlock, arrayLength, listedBy, listLength, flagsOf, recordOf, roleBlock, logOf, formatted, Leaves}
+use Rattle.shelf.specs.Lent.{lent, recordAt, oriBy, curBy, arrayBlock, arrayLength, listedBy, listLength, flagsOf, recordOf, roleBlock, logOf, noneList, Leaves}
 use Rattle.shelf.specs.Records.{withListed}
 use Rattle.shelf.specs.declared.record.Geometry.{Geometry}
 use Rattle.shelf.specs.declared.record.Shelf.{Shelf}
@@ -319,8 +319,7 @@ module _ (g : Geometry) (disk : ℕ → ℕ → List ℕ) (a : List ℕ) (F : Fi
 
 -- ---- the list emptied: every byte 255
 
-pub empty-bytes : (g : Geometry) → replicate (listLength g) 255 ≡ formatted g .list
-unfolding formatted
+empty-bytes : (g : Geometry) → replicate (listLength g) 255 ≡ noneList g
 empty-bytes g =
     let q : 4 * g .h + 16 * g .e ≡ 4 * (g .h + 4 * g .e) = omega arith in
     ap (λ (k : ℕ). replicate k 255) q ∙ sym (none-bytes (g .h + 4 * g .e))

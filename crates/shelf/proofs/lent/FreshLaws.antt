@@ -1,21 +1,28 @@
--- A fresh shelf, as format leaves it, holds what a fresh book says.
+-- A fresh shelf, as format leaves it: it is the fresh state, laid out, and it is clean, beside a fresh book.
 -- Assumes nothing.
 use mathlib.Core.Bool.{false}
 use mathlib.Core.List.{List, []}
-use mathlib.Core.Path.{_≡_, refl, sym, ap, _∙_, subst}
+use mathlib.Core.Path.{_≡_, refl, sym, ap, _∙_, subst, fun-ext}
 use Prim.Native.Nat.{ℕ, zero, suc, _+_, _*_, _<_}
 use native.Mathlib.Omega.{arith}
+use lib.Dec.{leb}
 use lib.ListN.{length, getD, replicate, length-replicate}
 use lib.Seq.{ext-getD}
+use borrow.Author.Tests.{le-ltb}
 use Rattle.stripe.specs.Blocks.{block, gen}
 use Rattle.stripe.proofs.Laws.{length-block, getD-block, length-gen, getD-gen, fits, place-lt}
-use Rattle.shelf.specs.Members.{InRange, blank, addressOf, placeAt}
+use Rattle.shelf.specs.Counting.{count, bit}
+use Rattle.shelf.specs.Members.{InRange, allMembers, blank, addressOf, placeAt}
 use Rattle.shelf.specs.State.{freshState, listed, isSome}
 use Rattle.shelf.specs.Book.{freshBook}
 use Rattle.shelf.specs.Words.{words}
 use Rattle.shelf.specs.HashList.{noneWord, Entry, said, valid, encode}
-use Rattle.shelf.specs.Lent.{recordAt, arrayBlock, arrayLength, logLength, listLength, flagsFrom, roleBlock, formatted, Leaves}
+use Rattle.shelf.specs.Lent.{flag, flagFrom, recordAt, arrayBlock, badRecord, arrayLength, logLength, listLength, flagsFrom, roleBlock, freshRecord, noneList, formatted, Leaves}
+use Rattle.shelf.specs.Clean.{Clean}
 use Rattle.shelf.specs.declared.record.Geometry.{Geometry}
+use Rattle.shelf.proofs.general.CountLaws.{none-any}
+use Rattle.shelf.proofs.general.TestLaws.{and-fine}
+use Rattle.shelf.proofs.numbers.InputLaws.{measures-fine, record-fine, lengths-fine}
 use Rattle.shelf.proofs.hashlist.WordLaws.{words-bytes}
 use Rattle.shelf.proofs.lent.FormatLaws.{none-bytes}
 use Rattle.shelf.proofs.hashlist.ListMeaning.{encode-none, none-valid, none-said}
@@ -24,8 +31,7 @@ use Rattle.shelf.proofs.hashlist.ListMarks.{none-record}
 use Rattle.shelf.proofs.lent.ListLayout.{list-laid}
 use Rattle.shelf.proofs.lent.LayoutLaws.{array-is, log-is, role-data, role-p, role-q, by-role}
 use Rattle.shelf.proofs.agreement.ListedLaws.{no-marks}
-use Rattle.shelf.proofs.agreement.Agreement.{fresh-agrees}
-use Rattle.shelf.proofs.lent.Holding.{Holds, leaves-holds}
+use Rattle.shelf.proofs.agreement.RowParity.{blankP, blankQ, blank-block}
 
 -- ---- zeros
 
@@ -45,14 +51,20 @@ block-zeros g n N h =
     (λ j p. let q : j < g .b = omega (arith, len) in
     getD-block (g .b) n (replicate (N * g .b) 0) j q ∙ byte-zeros (N * g .b) (n * g .b + j) ∙ sym (getD-gen (g .b) (λ _. 0) j q))
 
+array-zeros : (g : Geometry) (x i : ℕ) → x < g .s → i < g .d + 2 → arrayBlock g (replicate (arrayLength g) 0) x i ≡ blank g
+array-zeros g x i hx hi = block-zeros g (placeAt g x i) ((g .d + 2) * g .s) (place-lt (g .layout) (g .d) (g .s) x i hx hi)
+
+no-flag : (n i : ℕ) → flag (replicate n false) i ≡ false
+no-flag zero i = refl
+no-flag (suc n) zero = refl
+no-flag (suc n) (suc i) = no-flag n i
+
 -- ---- the list
 
-none-words : (g : Geometry) → words (formatted g .list) ≡ encode g []
-unfolding formatted
+none-words : (g : Geometry) → words (noneList g) ≡ encode g []
 none-words g = words-bytes (replicate (g .h + 4 * g .e) noneWord) ∙ sym (encode-none g)
 
-none-length : (g : Geometry) → length (formatted g .list) ≡ listLength g
-unfolding formatted
+pub none-length : (g : Geometry) → length (noneList g) ≡ listLength g
 none-length g = ap length (none-bytes (g .h + 4 * g .e)) ∙ length-replicate (4 * (g .h + 4 * g .e)) 255 ∙ omega arith
 
 -- every byte of a list of nones is below 256
@@ -62,7 +74,7 @@ full-bytes (suc n) zero = omega arith
 full-bytes (suc n) (suc i) = full-bytes n i
 
 -- it passes number 3 and says nothing
-pub fresh-says : (g : Geometry) → InRange g → HoldsList g (freshState g) 0 (formatted g .list)
+pub fresh-says : (g : Geometry) → InRange g → HoldsList g (freshState g) 0 (noneList g)
 unfolding freshState
 fresh-says g Y =
     record {
@@ -72,11 +84,10 @@ fresh-says g Y =
       cur = λ x i _ _. ap (λ (e : Entry). recordAt (e .cur)) (none-here x i) ∙ none-record;
     }
   where
-    none-here : (x i : ℕ) → said (words (formatted g .list)) g (addressOf g x i) ≡ record { address = addressOf g x i; ori = noneWord; cur = noneWord }
+    none-here : (x i : ℕ) → said (words (noneList g)) g (addressOf g x i) ≡ record { address = addressOf g x i; ori = noneWord; cur = noneWord }
     none-here x i = ap (λ (w : List ℕ). said w g (addressOf g x i)) (none-words g) ∙ none-said g (addressOf g x i) (Y .h-least) (Y .e-most)
 
-none-below : (g : Geometry) (i : ℕ) → getD (formatted g .list) i 0 < 256
-unfolding formatted
+none-below : (g : Geometry) (i : ℕ) → getD (noneList g) i 0 < 256
 none-below g i = subst (λ (l : List ℕ). getD l i 0 < 256) (sym (none-bytes (g .h + 4 * g .e))) (full-bytes (4 * (g .h + 4 * g .e)) i)
 
 -- ---- the shelf
@@ -87,12 +98,46 @@ fresh-leaves g Y =
     record {
       shelf = λ i. record { geometry = g; mode = 0; next = 0; listed = sym (no-marks g) i; failed = replicate 19 false };
       array = array-is g (freshState g) (replicate (arrayLength g) 0) (Y .s-least) (length-replicate (arrayLength g) 0)
-          (λ x i hx hi.
-          let blanks : blank g ≡ arrayBlock g (replicate (arrayLength g) 0) x i = sym (block-zeros g (placeAt g x i) ((g .d + 2) * g .s) (place-lt (g .layout) (g .d) (g .s) x i hx hi)) in
-          by-role g (λ j. roleBlock g (freshState g) x j ≡ blank g) (λ j hj. role-data g (freshState g) x j hj) (role-p g (freshState g) x) (role-q g (freshState g) x) i hi ∙ blanks);
+          (λ x i hx hi. by-role g (λ j. roleBlock g (freshState g) x j ≡ blank g) (λ j hj. role-data g (freshState g) x j hj) (role-p g (freshState g) x) (role-q g (freshState g) x) i hi
+          ∙ sym (array-zeros g x i hx hi));
       log = log-is g (freshState g) (replicate (logLength g) 0) (length-replicate (logLength g) 0) (λ r hr. sym (block-zeros g r (g .l) hr));
-      list = list-laid g (freshState g) 0 (formatted g .list) Y (fresh-says g Y) (none-below g);
+      list = list-laid g (freshState g) 0 (noneList g) Y (fresh-says g Y) (none-below g);
     }
 
-pub fresh-holds : (g : Geometry) → InRange g → Holds (formatted g) (freshBook g)
-fresh-holds g Y = leaves-holds Y (fresh-agrees g) (formatted g) (fresh-leaves g Y)
+-- the record of a fresh shelf passes row 1
+pub fresh-record : (g : Geometry) → badRecord (freshRecord g) ≡ false
+unfolding count bit
+fresh-record g =
+    record-fine (freshRecord g) (record {
+      modes = refl;
+      above = none-any 19 (flagFrom (replicate 19 false) (allMembers g))
+          (λ i _. and-fine (leb (allMembers g) i) (flag (replicate 19 false) i) (λ _. no-flag 19 i));
+      few = refl;
+      room = le-ltb (g .l) 0 (omega arith);
+      fits = le-ltb (g .e) 0 (omega arith);
+      idle = refl;
+      normal = refl;
+      transitional = refl;
+      accelerating = refl;
+    })
+
+-- a fresh shelf is clean, beside a fresh book
+pub fresh-clean : (g : Geometry) → InRange g → Clean g (formatted g) (freshBook g)
+unfolding formatted freshBook
+fresh-clean g Y =
+    record {
+      geometry = refl;
+      flags = refl;
+      measures = measures-fine g Y;
+      fine = fresh-record g;
+      lengths = lengths-fine g (length (replicate (arrayLength g) 0)) (length (replicate (logLength g) 0)) (length (noneList g))
+          (length-replicate (arrayLength g) 0) (length-replicate (logLength g) 0) (none-length g);
+      mode = refl;
+      list = refl;
+      failed = fun-ext (λ i. sym (no-flag 19 i));
+      marks = refl;
+      blocks = λ x i _ _. blank-block g;
+      sound = λ x i hx hi _. array-zeros g x i hx (omega arith);
+      parity = λ x hx.
+          record { p = λ _. array-zeros g x (g .d) hx (omega arith) ∙ sym (blankP g); q = λ _. array-zeros g x (g .d + 1) hx (omega arith) ∙ sym (blankQ g) };
+    }

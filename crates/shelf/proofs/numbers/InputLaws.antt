@@ -69,7 +69,7 @@ in-range g bad =
 fits-in : (low high x : ℕ) → low ≤ x → x ≤ high → outside low high x ≡ false
 fits-in low high x a b = ap₂ _||_ (le-ltb x low a) (le-ltb high x b)
 
-measures-fine : (g : Geometry) → InRange g → badMeasures g ≡ false
+pub measures-fine : (g : Geometry) → InRange g → badMeasures g ≡ false
 unfolding badMeasures
 measures-fine g Y =
     ap₂ _||_ (fits-in 2 16 (g .d) (Y .d-least) (Y .d-most)) (ap₂ _||_ (fits-in 1 65536 (g .s) (Y .s-least) (Y .s-most))
@@ -161,6 +161,12 @@ lengths-pass g na nl nt e =
       ),
     )
 
+-- and back
+pub lengths-fine : (g : Geometry) (na nl nt : ℕ) → na ≡ arrayLength g → nl ≡ logLength g → nt ≡ listLength g → badLengths g na nl nt ≡ false
+unfolding badLengths
+lengths-fine g na nl nt a l t =
+    ap₂ _||_ (ap not (eq-eqb na (arrayLength g) a)) (ap₂ _||_ (ap not (eq-eqb nl (logLength g) l)) (ap not (eq-eqb nt (listLength g) t)))
+
 pub inputs-pass : (r : Shelf) (na nl : ℕ) (l : List ℕ) (rest : ℕ) → inputRows r na nl l true rest ≡ 0 → Passed r na nl l × (rest ≡ 0)
 unfolding inputRows
 inputs-pass r na nl l rest e =
@@ -209,12 +215,10 @@ inputs-low r na nl l three =
 -- where they pass, a call's number is that of its own rows
 pub passed-number : (r : Shelf) (na nl : ℕ) (l : List ℕ) → Passed r na nl l → (c : Call)
     → numberOf r na nl l c ≡ codeOf (r .geometry) (flagAt r) (r .mode) (listedBy (r .geometry) l) c
-unfolding numberOf inputRows badLengths
+unfolding numberOf inputRows
 passed-number r na nl l P c =
     sym (row-pass 1 (badMeasures (r .geometry)) _ _ (measures-fine (r .geometry) (P .range)) (row-pass 1 (badRecord r) _ _ (P .fine)
-    (row-pass 2 (badLengths (r .geometry) na nl (length l)) _ _
-    (ap₂ _||_ (ap not (eq-eqb na (arrayLength (r .geometry)) (P .array)))
-    (ap₂ _||_ (ap not (eq-eqb nl (logLength (r .geometry)) (P .log))) (ap not (eq-eqb (length l) (listLength (r .geometry)) (P .list)))))
+    (row-pass 2 (badLengths (r .geometry) na nl (length l)) _ _ (lengths-fine (r .geometry) na nl (length l) (P .array) (P .log) (P .list))
     (row-pass 3 (triesList c && badList r l) _ _ (and-fine (triesList c) (badList r l) (λ _. ap not (P .valid))) refl))))
 
 -- what the list's functions ask

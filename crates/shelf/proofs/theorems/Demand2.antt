@@ -8,8 +8,9 @@ use Prim.Native.Nat.{ℕ, _<_}
 use Rattle.shelf.specs.Members.{roleP, roleQ, memberAt, blockP, blockQ}
 use Rattle.shelf.specs.State.{State, stale}
 use Rattle.shelf.specs.Book.{Book}
-use Rattle.shelf.specs.Lent.{Lent, flagAt, stateOf, arrayBlock, badMeasures}
+use Rattle.shelf.specs.Lent.{Lent, stateOf, badMeasures}
 use Rattle.shelf.specs.Sequence.{Reached}
+use Rattle.shelf.specs.Clean.{Parity}
 use Rattle.shelf.specs.declared.record.Geometry.{Geometry}
 use Rattle.shelf.proofs.general.CountLaws.{any-none}
 use Rattle.shelf.proofs.agreement.RowParity.{blockP-ext, blockQ-ext}
@@ -17,7 +18,7 @@ use Rattle.shelf.proofs.agreement.ListedLaws.{unlisted}
 use Rattle.shelf.proofs.agreement.Agreement.{Agrees}
 use Rattle.shelf.proofs.numbers.InputLaws.{in-range}
 use Rattle.shelf.proofs.lent.Holding.{Holds}
-use Rattle.shelf.proofs.lent.Reaching.{stands}
+use Rattle.shelf.proofs.lent.Reaching.{Stands, stands}
 pub use Rattle.stripe.proofs.Laws.{recovered-stripe}
 
 -- ---- on states: sound parity of a stripe that is not stale is parity of what the book holds
@@ -36,18 +37,15 @@ module _ {g : Geometry} {s : State} {b : Book} (A : Agrees g s b) (x : ℕ) (hx 
 
 -- ---- on what is lent
 
--- the parity that stripe x has in the array, where its member is sound
-pub record Parity (g : Geometry) (h : Lent) (b : Book) (x : ℕ) : Type 0 where
-  pub p : flagAt (h .shelf) (memberAt g x (roleP g)) ≡ false → arrayBlock g (h .array) x (roleP g) ≡ blockP g (b .held x)
-  pub q : flagAt (h .shelf) (memberAt g x (roleQ g)) ≡ false → arrayBlock g (h .array) x (roleQ g) ≡ blockQ g (b .held x)
-
 parity-here : (h : Lent) (b : Book) → Holds h b → (x : ℕ) → x < h .shelf .geometry .s → stale (h .shelf .geometry) (b .state .marks) x ≡ false
     → Parity (h .shelf .geometry) h b x
 unfolding stateOf
 parity-here h b H x hx rest = record { p = stored-P (H .agrees) x hx rest; q = stored-Q (H .agrees) x hx rest }
 
+pub standing-parity : (g : Geometry) (h : Lent) (b : Book) → Stands g h b → (x : ℕ) → x < g .s → stale g (b .state .marks) x ≡ false → Parity g h b x
+standing-parity g h b S =
+    subst (λ (k : Geometry). (x : ℕ) → x < k .s → stale k (b .state .marks) x ≡ false → Parity k h b x) (S .geometry) (parity-here h b (S .holds))
+
 pub stored-parity : (g : Geometry) → badMeasures g ≡ false → (h : Lent) (b : Book) → Reached g h b
     → (x : ℕ) → x < g .s → stale g (b .state .marks) x ≡ false → Parity g h b x
-stored-parity g fine h b R =
-    let S = stands (in-range g fine) R in
-    subst (λ (k : Geometry). (x : ℕ) → x < k .s → stale k (b .state .marks) x ≡ false → Parity k h b x) (S .geometry) (parity-here h b (S .holds))
+stored-parity g fine h b R = standing-parity g h b (stands (in-range g fine) R)

@@ -1,0 +1,36 @@
+-- A clean shelf beside its book: in mode 0, its list filled with none, its sound members with the blocks that the book holds and their parity. A
+-- sequence of calls may begin there as at a fresh shelf, which is one of them; request P8 says of the others that they carry over.
+-- Assumes nothing.
+use mathlib.Core.Bool.{false}
+use mathlib.Core.Path.{_≡_}
+use Prim.Native.Nat.{ℕ, _<_}
+use lib.ListN.{length}
+use Rattle.shelf.specs.Members.{roleP, roleQ, memberAt, IsBlock, blockP, blockQ}
+use Rattle.shelf.specs.Book.{Book, noMarks}
+use Rattle.shelf.specs.Lent.{Lent, flagAt, arrayBlock, badMeasures, badRecord, badLengths, noneList}
+use Rattle.shelf.specs.declared.record.Geometry.{Geometry}
+
+-- the parity that stripe x has in the array, where its member is sound, is that of the blocks that the book holds
+pub record Parity (g : Geometry) (h : Lent) (b : Book) (x : ℕ) : Type 0 where
+  pub p : flagAt (h .shelf) (memberAt g x (roleP g)) ≡ false → arrayBlock g (h .array) x (roleP g) ≡ blockP g (b .held x)
+  pub q : flagAt (h .shelf) (memberAt g x (roleQ g)) ≡ false → arrayBlock g (h .array) x (roleQ g) ≡ blockQ g (b .held x)
+
+-- "Shelves in mode 0 carry over after their list is filled with none." Up to two members may have failed, as number 1 allows; their bytes may be
+-- anything, and so may those of a sound log. Of a block on a failed member the book holds what the sound parity was made of.
+pub record Clean (g : Geometry) (h : Lent) (b : Book) : Type 0 where
+  -- a shelf of these measures, with its nineteen flags, to which numbers 1 and 2 do not apply
+  pub geometry : h .shelf .geometry ≡ g
+  pub flags : length (h .shelf .failed) ≡ 19
+  pub measures : badMeasures g ≡ false
+  pub fine : badRecord (h .shelf) ≡ false
+  pub lengths : badLengths g (length (h .array)) (length (h .log)) (length (h .list)) ≡ false
+  -- in mode 0, for which number 1 sees to it that nothing is listed and no log record is in use; its list is filled with none
+  pub mode : h .shelf .mode ≡ 0
+  pub list : h .list ≡ noneList g
+  -- the book knows the failed members, and has no marks
+  pub failed : b .failed ≡ flagAt (h .shelf)
+  pub marks : b .state ≡ noMarks
+  -- sound members hold the blocks of the book, and their parity
+  pub blocks : (x i : ℕ) → x < g .s → i < g .d → IsBlock g (b .held x i)
+  pub sound : (x i : ℕ) → x < g .s → i < g .d → flagAt (h .shelf) (memberAt g x i) ≡ false → arrayBlock g (h .array) x i ≡ b .held x i
+  pub parity : (x : ℕ) → x < g .s → Parity g h b x
