@@ -2,7 +2,7 @@
 -- the whole input in their order, and writes what comes of them (`whole-input`); and where it is not closed, since the measures were refused, no rest of
 -- the input would bring more (`refused-input`).
 -- Assumes nothing.
-use mathlib.Core.Bool.{Bool, true, false}
+use mathlib.Core.Bool.{true, false}
 use mathlib.Core.List.{List, [], _∷_, _++_, append-assoc, append-nil}
 use mathlib.Core.Logic.{⊎-elim}
 use mathlib.Core.Path.{_≡_, refl, sym, ap, ap₂, _∙_, subst}

@@ -1,11 +1,10 @@
 -- Laws of one line of a session: what is lent of the program's buffers, a shelf that is set up, a call that is answered.
 -- Assumes nothing.
-use mathlib.Core.Bool.{Bool, true, false, not, cond, false≢true}
-use mathlib.Core.List.{List, [], _++_}
+use mathlib.Core.Bool.{true, false, not, false≢true}
+use mathlib.Core.List.{List, _++_}
 use mathlib.Core.Path.{_≡_, refl, sym, ap, _∙_, subst}
 use Prim.Native.Nat.{ℕ, _+_, _≤_}
 use native.Mathlib.Omega.{arith}
-use lib.Dec.{eqb}
 use lib.ListN.{length, take, drop}
 use lib.Seq.{length-take-le, take-at}
 use borrow.Author.Tests.{eq-eqb, not-true}
@@ -25,7 +24,6 @@ use Rattle.shelf.specs.declared.record.Geometry.{Geometry}
 use Rattle.shelf.specs.declared.record.Shelf.{Shelf}
 use Rattle.bench.specs.Bench.{geometryOf, fits, Performed, answerOf}
 use Rattle.bench.specs.Sessions.{formatNumber, Opens, Answers, Taking, lentParts}
-use Rattle.bench.specs.declared.calls.Outcome.{Outcome}
 use Rattle.bench.specs.declared.session.Session.{Session}
 use Rattle.bench.specs.declared.session.Stage.{Stage}
 use Rattle.bench.specs.declared.session.Stage.the-variants as Stage

@@ -1,9 +1,9 @@
 -- Laws of a session: a line held byte by byte, lines taken one after another, and what is written of them.
 -- Assumes nothing.
-use mathlib.Core.Bool.{Bool, true, false, not}
+use mathlib.Core.Bool.{Bool, true, false}
 use mathlib.Core.List.{List, [], _∷_, _++_, append-assoc, append-nil}
 use mathlib.Core.Path.{_≡_, refl, sym, ap, ap₂, _∙_, subst}
-use Prim.Native.Nat.{ℕ, zero, suc, _+_, _-_, _≤_, _<_}
+use Prim.Native.Nat.{ℕ, suc, _+_, _-_, _≤_, _<_}
 use native.Mathlib.Numerals.{add-one}
 use native.Mathlib.Omega.{arith}
 use lib.Dec.{eqb}
@@ -11,13 +11,11 @@ use lib.ListN.{length, take, drop, getD, drop-of-length-le, length-append, lengt
 use lib.Seq.{drop-cons, length-take-le, take-append-le, take-append-add}
 use borrow.Rule.Slice.PartMut.{putMid, postOf}
 use borrow.Author.Tests.{eq-eqb, ne-eqb}
-use Rattle.lines.specs.MeasureLines.{measuresLine}
-use Rattle.lines.specs.RequestLines.{requestLine}
 use Rattle.lines.specs.Held.{Keeps, fitting}
 use Rattle.lines.proofs.HeldLaws.{keeps-none, keeps-empty, keeps-request, keeps-measures}
 use Rattle.shelf.specs.Counting.{choose}
 use Rattle.shelf.specs.Lent.{Lent}
-use Rattle.bench.specs.Sessions.{linesFrom, heldAfter, lastLine, Opens, Answers, Takes, Transcript, no-lines, one-more, closing, Ready, Opened, Begins, Ends, Closes}
+use Rattle.bench.specs.Sessions.{linesFrom, heldAfter, lastLine, Takes, Transcript, no-lines, one-more, closing, Ready, Opened, Begins, Ends, Closes}
 use Rattle.bench.specs.declared.input.Taken.{Taken}
 use Rattle.bench.specs.declared.session.Session.{Session}
 use Rattle.bench.specs.declared.session.Stage.{Stage}

@@ -119,7 +119,10 @@ pub record Written (input : List ℕ) (h : Lent) (output : List ℕ) : Type 0 wh
 abbrev pub lentParts : Shelf → List ℕ → List ℕ → List ℕ → Lent
 lentParts r a n l = lent r (take (arrayLength (r .geometry)) a) (take (logLength (r .geometry)) n) (take (listLength (r .geometry)) l)
 
--- the buffers of array, log, list and data have 32,768 bytes each
+-- the buffers of array, log and list have 32,768 bytes each; and so has that of a call's data
+abbrev pub ShelfLengths : List ℕ → List ℕ → List ℕ → Type 0
+ShelfLengths a n l = (length a ≡ 32768) × ((length n ≡ 32768) × (length l ≡ 32768))
+
 abbrev pub BufferLengths : List ℕ → List ℕ → List ℕ → List ℕ → Type 0
 BufferLengths a n l data′ = (length a ≡ 32768) × ((length n ≡ 32768) × ((length l ≡ 32768) × (length data′ ≡ 32768)))
 

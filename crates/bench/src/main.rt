@@ -34,7 +34,8 @@ fn main() {
 }
 
 // Writes the names of the columns, then takes the input piece by piece and writes what comes of each, up to the input's end or to measures
-// that are refused. A read that fails counts as the end. The turns are counted down from a number that no input uses up, since a loop has to end.
+// that are refused. A read that fails counts as the end. The turns are counted down from a number that no input uses up, since a loop
+// has to end.
 fn run(
     input: &mut [u8],
     line: &mut [u8],

@@ -14,7 +14,7 @@ ghost use lib.ListN.{length};
 ghost use Rattle.lines.specs.MeasureLines.{measuresLine};
 ghost use Rattle.shelf.specs.Lent.{formatted};
 ghost use Rattle.bench.specs.Bench.{geometryOf, fits, Performed, answerOf};
-ghost use Rattle.bench.specs.Sessions.{lentParts, BufferLengths, ReadyAt, Opens, Answers, Takes, Taking};
+ghost use Rattle.bench.specs.Sessions.{lentParts, ShelfLengths, BufferLengths, ReadyAt, Opens, Answers, Takes, Taking};
 
 // Takes a line at the session's stage, and puts what is written of it at the start of out.
 pub fn take_line(
@@ -61,7 +61,7 @@ fn open(
     list: &mut [u8],
     out: &mut [u8],
 ) -> Session
-    requires { ⌜ BufferLengths (now array) (now log) (now list) (now array) × (length (now out) ≡ 128) ⌝ }
+    requires { ⌜ ShelfLengths (now array) (now log) (now list) × (length (now out) ≡ 128) ⌝ }
     ensures { λ r. ⌜ Taking (Opens (now (line .entry)) (lentParts (from .shelf) (now (array .entry)) (now (log .entry)) (now (list .entry)))) r (lentParts (r .shelf) (now (array .exit)) (now (log .exit)) (now (list .exit))) (now (out .exit)) ⌝ }
 {
     let g = geometry_of(line);
@@ -113,7 +113,7 @@ fn geometry_of(line: &[u8]) -> Geometry
 
 // A fresh shelf, in as many bytes of each buffer as its geometry takes.
 fn format(g: Geometry, array: &mut [u8], log: &mut [u8], list: &mut [u8]) -> Shelf
-    requires { ⌜ (fits g ≡ true) × BufferLengths (now array) (now log) (now list) (now array) ⌝ }
+    requires { ⌜ (fits g ≡ true) × ShelfLengths (now array) (now log) (now list) ⌝ }
     ensures { λ r. ⌜ lentParts r (now (array .exit)) (now (log .exit)) (now (list .exit)) ≡ formatted g ⌝ }
 {
     let a = room::array_length(g);

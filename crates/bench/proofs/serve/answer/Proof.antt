@@ -1,6 +1,6 @@
 -- `bench::serve::answer` meets its contract.
 -- Assumes nothing.
-use mathlib.Core.Path.{_≡_, refl, sym, ap, _∙_}
+use mathlib.Core.Path.{refl}
 use native.Mathlib.Omega.{arith}
 use Rattle.bench.proofs.ServeLaws.{answers-made}
 use borrow.Author.Needs.{needs}

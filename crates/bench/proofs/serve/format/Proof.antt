@@ -40,12 +40,12 @@ slice-aggregate-shelf-format-2 c =
 slice-relend-prefix-shelf-format-3 : tie.Need-slice-relend-prefix-shelf-format-3
 slice-relend-prefix-shelf-format-3 c =
     let p = c .before .before .before .before .before .before .before .before .pre in
-    part-within _ _ (c .before .before .before .before .before .before .before .before .args .list .now) (c .before .before .list-length .ensures .0) (rooms _ (p .0) .1 .1) (p .1 .1 .1 .0)
+    part-within _ _ (c .before .before .before .before .before .before .before .before .args .list .now) (c .before .before .list-length .ensures .0) (rooms _ (p .0) .1 .1) (p .1 .1 .1)
 
 slice-aggregate-shelf-format-3 : tie.Need-slice-aggregate-shelf-format-3
 slice-aggregate-shelf-format-3 c =
     let p = c .before .before .before .before .before .before .before .before .before .pre in
-    sym (length-take-le _ _ (part-within _ _ (c .before .before .before .before .before .before .before .before .before .args .list .now) (c .before .before .before .list-length .ensures .0) (rooms _ (p .0) .1 .1) (p .1 .1 .1 .0)))
+    sym (length-take-le _ _ (part-within _ _ (c .before .before .before .before .before .before .before .before .before .args .list .now) (c .before .before .before .list-length .ensures .0) (rooms _ (p .0) .1 .1) (p .1 .1 .1)))
 
 shelf-format-requires : tie.Need-shelf-format-requires
 shelf-format-requires c κs = search needs
@@ -76,7 +76,7 @@ returns c =
       t-kept = k .1 .1 .1 .0;
       a-room = part-within _ _ (c .before .before .before .before .before .before .before .before .before .before .before .before .before .before .before .before .before .args .array .now) a (rooms _ (p .0) .0) (p .1 .0);
       l-room = part-within _ _ (c .before .before .before .before .before .before .before .before .before .before .before .before .before .before .before .before .before .args .log .now) l (rooms _ (p .0) .1 .0) (p .1 .1 .0);
-      t-room = part-within _ _ (c .before .before .before .before .before .before .before .before .before .before .before .before .before .before .before .before .before .args .list .now) t (rooms _ (p .0) .1 .1) (p .1 .1 .1 .0);
+      t-room = part-within _ _ (c .before .before .before .before .before .before .before .before .before .before .before .before .before .before .before .before .before .args .list .now) t (rooms _ (p .0) .1 .1) (p .1 .1 .1);
     })
     _ _ refl (p .0) (c .before .before .before .before .before .before .before .shelf-format .ensures .1)
 

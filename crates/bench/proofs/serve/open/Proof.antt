@@ -1,7 +1,6 @@
 -- `bench::serve::open` meets its contract.
 -- Assumes nothing.
-use mathlib.Core.Bool.{Bool, true, false}
-use mathlib.Core.Path.{_≡_, refl, sym, ap, _∙_}
+use mathlib.Core.Path.{refl, sym, ap, _∙_}
 use Rattle.bench.specs.Bench.{fits}
 use Rattle.bench.proofs.ServeLaws.{opens-refused, opens-made}
 use borrow.Author.Tests.{not-true, not-false}

@@ -17,7 +17,9 @@ enum-told-2 : tie.Need-enum-told-2
 enum-told-2 c = search needs
 
 open-requires : tie.Need-open-requires
-open-requires c κs = search needs
+open-requires c κs =
+    let p = c .before .before .before .before .before .before .before .before .before .before .before .before .pre in
+    ((p .0 .0, (p .0 .1 .0, p .0 .1 .1 .0)), p .1 .1)
 
 enum-told-3 : tie.Need-enum-told-3
 enum-told-3 c = search needs
