@@ -1,7 +1,8 @@
 /* The benchmark: this library's calls against ISA-L, plain C rows and memcpy, those that change a list
-   against one that only tests it, that one against a test in plain C, and those of the rotating layout
-   against those of the fixed one. It compares all results, then times all variants in one interleaved run
-   and prints in Markdown how fast the library is beside each of them. `benchmarks/run` builds and runs it. */
+   against one that only tests it, that one against a test in plain C, those of the rotating layout against
+   those of the fixed one, and those with one parity against those with two. It compares all results, then
+   times all variants in one interleaved run and prints in Markdown how fast the library is beside each of
+   them. `benchmarks/run` builds and runs it. */
 #define _POSIX_C_SOURCE 200809L
 
 #include "bench.h"
@@ -102,7 +103,7 @@ static void plan(struct line *line)
     for (unsigned v = 0; v < variant_count; v++) {
         if (!takes_part(line, &variants[v]))
             continue;
-        struct job job = in_layout(&line->job, variants[v].layout);
+        struct job job = job_of(line, &variants[v]);
         turn_to(&job);
         line->calls[v] = calls_in_slice(&variants[v], &job);
     }
@@ -129,7 +130,7 @@ static void time_line(struct line *line, unsigned round)
         unsigned v = order[k];
         if (!takes_part(line, &variants[v]))
             continue;
-        struct job job = in_layout(&line->job, variants[v].layout);
+        struct job job = job_of(line, &variants[v]);
         turn_to(&job);
         run_batch(&variants[v], &job, line->calls[v]);
         line->times[v][round] = time_batch(&variants[v], &job, line->calls[v]);
@@ -157,7 +158,7 @@ static void check_again(const struct line *line)
     for (unsigned v = 0; v < variant_count; v++) {
         if (!takes_part(line, &variants[v]))
             continue;
-        struct job job = in_layout(&line->job, variants[v].layout);
+        struct job job = job_of(line, &variants[v]);
         turn_to(&job);
         run_batch(&variants[v], &job, line->calls[v]);
         compare(&job, variants[v].name);

@@ -13,16 +13,18 @@
 #define DATA_BYTES ((size_t)16 << 20) /* the data blocks of an array, rounded up to a whole stripe */
 #define SMALL_BYTES ((size_t)1 << 20) /* those of an array in cache */
 
-enum { MOST_DATA = 16, MOST_VARIANTS = 13, MOST_ROUNDS = 200 };
+enum { MOST_DATA = 16, MOST_VARIANTS = 14, MOST_ROUNDS = 200 };
 
 /* A stripe's works, those of a shelf over its whole array, two rebuilds that only the comparison of the
-   layouts needs, those of a shelf with blocks listed, and the test of the list alone. */
+   layouts needs, those of a shelf with blocks listed, the test of the list alone, and parity of a stripe
+   without Q. */
 enum work {
     PARITY, ONE_BLOCK, TWO_BLOCKS, ALL_STRIPES,
     WRITE, READ, FETCH, FETCH_ONE, FETCH_TWO, REBUILD_ONE, REBUILD_TWO, REBUILD_PARITY, FULL_RESYNC,
     REBUILD_WITH_P, REBUILD_WITH_Q,
     LOG_AGAIN, LOG_NEW, RESYNC,
     TEST,
+    P_ALONE,
     WORKS,
     SHELF_WORKS = WRITE, MIXED_WORKS = REBUILD_WITH_P, LIST_WORKS = LOG_AGAIN /* the first of a kind */
 };
@@ -30,9 +32,10 @@ enum work {
 struct job {
     enum work work;
     uint32_t d, b, s; /* data blocks in a stripe, bytes in a block, stripes */
+    uint32_t parities;
     uint32_t x, y;    /* the members that are made or have failed; the same one twice counts once */
-    size_t len;       /* (d + 2) * s * b */
-    uint8_t *bytes;   /* a stripe (data, P, Q), or an array kept by member */
+    size_t len;       /* (d + parities) * s * b */
+    uint8_t *bytes;   /* a stripe (data, P, Q), or an array kept by member; with one parity Q stands behind it */
     uint8_t *copy;    /* where memcpy and both reads put the data */
 
     /* The layout, what the bytes must be after each call in either layout, and the one that they are in
@@ -59,6 +62,7 @@ struct variant {
     bool wide;                /* its code may leave upper halves of vector registers in use */
     size_t layout;            /* that it works in */
     call_of_job *call[WORKS]; /* null: it has no call for this work */
+    bool single;              /* it works on the array without Q */
 };
 
 /* A line of a table: a job in the fixed layout, which variants are timed, and for each of them how many
@@ -66,19 +70,20 @@ struct variant {
 struct line {
     struct job job;
     bool alone;    /* of those of the fixed layout only this library, and C to compare the layouts in */
-    bool rotating; /* the variants of the rotating layout too */
+    bool rotating; /* the variants of the rotating layout and those without Q too */
     uint64_t calls[MOST_VARIANTS];
     double times[MOST_VARIANTS][MOST_ROUNDS];
 };
 
 /* The variants (variants.c): this library first, then the one that results are held to, then the
    other peers. Some are told by their place from the end: a call that only tests the list, the C test of the
-   list, C and this library in the rotating layout, C in the fixed one beside it. takes_part: whether one is
-   timed on a line. */
-enum { LIST_TEST = 1, C_LIST_TEST, C_ROTATING, ROTATING, C_FIXED };
+   list, C and this library in the rotating layout, C in the fixed one beside it, this library without Q.
+   takes_part: whether one is timed on a line. job_of: the line's job as it is for one. */
+enum { LIST_TEST = 1, C_LIST_TEST, C_ROTATING, ROTATING, C_FIXED, SINGLE };
 extern const struct variant variants[];
 extern const unsigned variant_count;
 bool takes_part(const struct line *line, const struct variant *v);
+struct job job_of(const struct line *line, const struct variant *v);
 
 /* The timing (bench.c). turn_to comes before a job's calls, and puts its bytes in its layout; run_batch
    makes calls of a variant and answers what they took, in nanoseconds. */
@@ -88,14 +93,15 @@ double run_batch(const struct variant *v, const struct job *job, uint64_t calls)
 
 /* The lines (jobs.c): by work, then by measures, and those with blocks listed by their number at
    last; those of the test of the list are by d, then by slots, then by that number; those of a small array
-   by number in laid_works, then by measures. They are made, and each variant's results compared with what
-   they must be. */
-enum { MEASURES = 4, COUNTS = 3, TEST_WIDTHS = 2, TEST_SLOTS = 3, LAID_WORKS = 9, LAID_COUNT = 1 };
+   by number in laid_works, then by measures; those of a stripe without Q by their own measures. They are
+   made, and each variant's results compared with what they must be. */
+enum { MEASURES = 4, COUNTS = 3, TEST_WIDTHS = 2, TEST_SLOTS = 3, LAID_WORKS = 9, LAID_COUNT = 1, P_MEASURES = 6 };
 enum {
     LIST_LINES = LIST_WORKS * MEASURES,
     TEST_LINES = LIST_LINES + (TEST - LIST_WORKS) * MEASURES * COUNTS,
     SMALL_LINES = TEST_LINES + TEST_WIDTHS * TEST_SLOTS * COUNTS,
-    LINES = SMALL_LINES + LAID_WORKS * MEASURES
+    P_LINES = SMALL_LINES + LAID_WORKS * MEASURES,
+    LINES = P_LINES + P_MEASURES
 };
 extern struct line lines[LINES];
 extern const uint32_t counts[COUNTS], test_counts[COUNTS];
@@ -123,10 +129,12 @@ void fetch_block(const struct job *job, struct shelf_record record, size_t addre
 call_of_job ours_write, ours_read, ours_fetch, ours_fetch_lost, ours_rebuild, ours_full_resync, ours_log, ours_resync,
     ours_test;
 
-/* The layouts by C (layouts.c): a job in another one, the member that has a role in a stripe, where a
-   member's block stands in an array; and the bytes put in the job's layout, as they must be. turn_array
-   makes the array of the rotating layout from that of the fixed one. The calls work in either layout. */
+/* The layouts by C (layouts.c): a job in another one, a job of the fixed one without Q, the member that has
+   a role in a stripe, where a member's block stands in an array; and the bytes put in the job's layout, as
+   they must be. turn_array makes the array of the rotating layout from that of the fixed one. The calls work
+   in either layout, with two parities. */
 struct job in_layout(const struct job *job, size_t layout);
+struct job without_q(const struct job *job);
 uint32_t member_of(const struct job *job, uint32_t t, uint32_t role);
 size_t offset_of(const struct job *job, uint32_t member, uint32_t t);
 void lay_out(const struct job *job);
@@ -144,6 +152,7 @@ call_of_job copy_data, copy_blocks;
 struct rows {
     void (*init)(void);
     void (*parity)(uint32_t d, size_t b, size_t stride, uint8_t *first);
+    void (*sum)(uint32_t d, size_t b, uint8_t *stripe);
     void (*recover_one)(uint32_t d, size_t b, uint32_t x, uint8_t *stripe);
     void (*recover_two)(uint32_t d, size_t b, uint32_t x, uint32_t y, uint8_t *stripe);
     void (*parity_at)(uint32_t d, size_t b, uint8_t *const *blocks);

@@ -47,7 +47,7 @@ static void prepare_parity(const struct job *job)
     target_count = 2;
 }
 
-/* One data block from the others and P: a row of ones. */
+/* One data block from the others and P, or P from all data: a row of ones. */
 static void prepare_one(const struct job *job)
 {
     uint32_t k = 0;
@@ -85,7 +85,7 @@ static void prepare_two(const struct job *job)
 void isal_prepare(const struct job *job)
 {
     bool fetches = job->work == FETCH_ONE || job->work == FETCH_TWO;
-    for (uint32_t i = 0; i < job->d + 2; i++)
+    for (uint32_t i = 0; i < job->d + job->parities; i++)
         at.members[i] = job->bytes + (size_t)i * job->s * job->b;
     at.targets[0] = fetches ? job->copy : at.members[job->x];
     at.targets[1] = at.members[job->y];
@@ -101,7 +101,7 @@ void isal_prepare(const struct job *job)
 /* Goes to the blocks of the next stripe. */
 static void advance(struct places *to, const struct job *job)
 {
-    for (uint32_t i = 0; i < job->d + 2; i++)
+    for (uint32_t i = 0; i < job->d + job->parities; i++)
         to->members[i] = (uint8_t *)to->members[i] + job->b;
     for (uint32_t i = 0; i < job->d + 1; i++)
         to->sources[i] += job->b;

@@ -10,6 +10,7 @@
 #define TEST_STRIPES 4096 /* of a shelf whose list is tested; d times it is a multiple of all H */
 
 static const uint32_t measures[MEASURES][2] = {{5, 512}, {5, 4096}, {16, 512}, {16, 4096}};
+static const uint32_t p_measures[P_MEASURES][2] = {{3, 512}, {3, 4096}, {5, 512}, {5, 4096}, {16, 512}, {16, 4096}};
 const uint32_t counts[COUNTS] = {16, 256, PLACES};
 
 static const uint32_t test_widths[TEST_WIDTHS] = {5, 16}, test_slots[TEST_SLOTS] = {SLOTS, 16, 1};
@@ -67,9 +68,9 @@ static void fill(struct line *line)
 }
 
 /* A line for one stripe, or for an array, of random bytes with their P and Q. */
-static struct line random_line(enum work work, unsigned m, uint32_t s, uint8_t *copy)
+static struct line random_line(enum work work, const uint32_t m[2], uint32_t s, uint8_t *copy)
 {
-    struct line line = {.job = {.work = work, .d = measures[m][0], .b = measures[m][1], .s = s, .copy = copy}};
+    struct line line = {.job = {.work = work, .d = m[0], .b = m[1], .s = s, .parities = 2, .copy = copy}};
     line.job.len = (size_t)(line.job.d + 2) * s * line.job.b;
     line.job.bytes = pages(line.job.len);
     name_members(&line.job);
@@ -106,7 +107,7 @@ static void add_rotating(struct job *job)
 static struct line shelf_line(unsigned m, size_t bytes, uint8_t *copy)
 {
     size_t stripe = (size_t)measures[m][0] * measures[m][1];
-    struct line line = random_line(ALL_STRIPES, m, (uint32_t)((bytes + stripe - 1) / stripe), copy);
+    struct line line = random_line(ALL_STRIPES, measures[m], (uint32_t)((bytes + stripe - 1) / stripe), copy);
     struct job *job = &line.job;
     lend(job, SLOTS);
     memcpy(job->bytes, job->sound[SHELF_FIXED], job->len);
@@ -193,7 +194,7 @@ static void list_blocks(struct job *job, uint32_t count)
 /* Makes a line for the test of the list: a shelf of blocks of one byte, all zero. */
 static void test_line(struct line *line, uint32_t d, uint32_t h, uint32_t count)
 {
-    *line = (struct line){.job = {.work = TEST, .d = d, .b = 1, .s = TEST_STRIPES, .listed = count}};
+    *line = (struct line){.job = {.work = TEST, .d = d, .b = 1, .s = TEST_STRIPES, .parities = 2, .listed = count}};
     struct job *job = &line->job;
     name_members(job);
     job->len = (size_t)(d + 2) * job->s * job->b;
@@ -213,6 +214,14 @@ static void small_lines(unsigned m, uint8_t *copy)
         lines[SMALL_LINES + k * MEASURES + m] = with_work(&shelf, laid_works[k]);
 }
 
+/* A line for a stripe without Q. */
+static struct line p_line(const uint32_t m[2], uint8_t *copy)
+{
+    struct line line = random_line(P_ALONE, m, 1, copy);
+    line.job = without_q(&line.job);
+    return line;
+}
+
 /* Makes all lines. Those of an array share one for each pair of measures. */
 void make_lines(void)
 {
@@ -221,13 +230,15 @@ void make_lines(void)
         struct line shelf = shelf_line(m, DATA_BYTES, copy);
         for (unsigned w = 0; w < LIST_WORKS; w++)
             lines[w * MEASURES + m] =
-                w < ALL_STRIPES ? random_line((enum work)w, m, 1, copy) : with_work(&shelf, (enum work)w);
+                w < ALL_STRIPES ? random_line((enum work)w, measures[m], 1, copy) : with_work(&shelf, (enum work)w);
         list_lines(&shelf, m);
         small_lines(m, copy);
     }
     for (unsigned k = 0; k < SMALL_LINES - TEST_LINES; k++)
         test_line(&lines[TEST_LINES + k], test_widths[k / (TEST_SLOTS * COUNTS)], test_slots[k / COUNTS % TEST_SLOTS],
                   test_counts[k % COUNTS]);
+    for (unsigned k = 0; k < P_MEASURES; k++)
+        lines[P_LINES + k] = p_line(p_measures[k], copy);
 }
 
 /* Makes bytes differ from what they must be. */
@@ -249,7 +260,7 @@ static bool makes(const struct job *job, uint32_t member, uint32_t role)
 static void spoil_made(const struct job *job, uint32_t stripes)
 {
     for (uint32_t t = 0; t < stripes; t++)
-        for (uint32_t i = 0; i < job->d + 2; i++) {
+        for (uint32_t i = 0; i < job->d + job->parities; i++) {
             uint32_t member = member_of(job, t, i);
             size_t from = offset_of(job, member, t);
             if (makes(job, member, i))
@@ -323,11 +334,11 @@ void check(const struct line *line)
     }
     for (unsigned k = 0; k < variant_count; k++) {
         const struct variant *v = &variants[k];
-        struct job job = in_layout(&line->job, v->layout);
+        struct job job = job_of(line, v);
         if (!takes_part(line, v) || v->call[work] == copy_data || v->call[work] == ours_test)
             continue;
         turn_to(&job);
-        if (work >= LIST_WORKS && work != RESYNC)
+        if (work == LOG_AGAIN || work == LOG_NEW)
             check_logged(&job, v);
         else if (reads)
             check_read(&job, v);

@@ -1,6 +1,6 @@
 /* The layouts as C sees them: which member has which role in a stripe, the array of the rotating layout
-   made from that of the fixed one, an array put in either of them, and a peer in plain C for both: blocks
-   copied by memcpy, sums by the C rows by mask. */
+   made from that of the fixed one, an array put in either of them, an array without Q, and a peer in plain C
+   for both layouts: blocks copied by memcpy, sums by the C rows by mask. */
 #include "bench.h"
 
 #include <string.h>
@@ -13,11 +13,24 @@ struct job in_layout(const struct job *job, size_t layout)
     return other;
 }
 
+/* The same job without Q. In the fixed layout that is the last member, so the array is shorter, and the rest
+   of it the same. */
+struct job without_q(const struct job *job)
+{
+    struct job other = *job;
+    other.parities = 1;
+    other.record.geometry.parities = 1;
+    other.x = job->x < job->d ? job->x : job->d;
+    other.y = job->y < job->d ? job->y : job->d;
+    other.len = offset_of(job, job->d + 1, 0);
+    return other;
+}
+
 /* The member that has a role in stripe t: 0 to d - 1 are the data indices, d is P, d + 1 is Q. In the
    rotating layout P goes down by a member a stripe, and Q and the data indices follow it round. */
 uint32_t member_of(const struct job *job, uint32_t t, uint32_t role)
 {
-    uint32_t n = job->d + 2, behind_p = (role + 2) % n;
+    uint32_t n = job->d + job->parities, behind_p = (role + job->parities) % n;
     return job->layout == SHELF_FIXED ? role : (n - 1 - t % n + behind_p) % n;
 }
 
@@ -27,12 +40,12 @@ size_t offset_of(const struct job *job, uint32_t member, uint32_t t)
     return ((size_t)member * job->s + t) * job->b;
 }
 
-/* Makes a job's bytes what they must be in its layout, if they are in the other one. */
+/* Makes a job's bytes what they must be in its layout, Q too, if they are in the other one. */
 void lay_out(const struct job *job)
 {
     if (job->laid == NULL || *job->laid == job->layout)
         return;
-    memcpy(job->bytes, job->sound[job->layout], job->len);
+    memcpy(job->bytes, job->sound[job->layout], offset_of(job, job->d + 2, 0));
     *job->laid = job->layout;
 }
 

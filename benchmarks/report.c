@@ -25,6 +25,7 @@ static const char *const titles[WORKS] = {
     [LOG_NEW] = "`shelf_write` of a block that is not",
     [RESYNC] = "`shelf_resync`",
     [TEST] = "test of the list",
+    [P_ALONE] = "parity of a stripe, P alone",
 };
 
 static double least_part = 1, most_part = 1; /* how far ratios go from those shown, with other load */
@@ -127,6 +128,11 @@ static void print_stripe_terms(void)
     printf("- Stripe and recovery: one stripe, in cache, the same for all variants. In recovery the"
            " missing blocks are not cleared between calls. memcpy copies the data blocks: it stores d blocks where"
            " parity stores two.\n");
+#ifdef WITH_ISAL
+    printf("- ISA-L's pq_gen and xor_gen for SSE store past the cache. Where the same short blocks are stored by every"
+           " call, it waits for the stores of the one before, so that their figures of one stripe with B 512 are below"
+           " what they reach with other stripes by turns.\n");
+#endif
     printf("- Array: %zu MiB of data blocks, kept by member, the same for all variants; P and Q of all"
            " stripes are made in place.\n\n", DATA_BYTES >> 20);
 }
@@ -176,13 +182,28 @@ static void print_layout_terms(void)
            DATA_BYTES >> 20, SMALL_BYTES >> 20, counts[LAID_COUNT]);
 }
 
+/* The same of P alone. */
+static void print_p_terms(void)
+{
+    printf("\nOne parity: P of one stripe, in cache, by `stripe_make_parity` and by the peers over the same"
+           " blocks.\n\n");
+}
+
+/* The same of a shelf with one parity. */
+static void print_single_terms(void)
+{
+    printf("\nA shelf with one parity beside one with two, fixed layout, nothing listed, in GB/s of data blocks. Both"
+           " work on the same bytes: the array with one parity is that with two without its last member, Q. Data disk 2"
+           " is rebuilt, from P in either.\n\n");
+}
+
 /* Whether a variant has a column in a table of some lines: if it is timed on one, and not there for the
-   comparison of the layouts. */
+   comparison of the layouts or of the parities. */
 static bool has_column(unsigned v, const struct line *from, const struct line *end)
 {
-    bool layouts = v >= variant_count - C_FIXED && v <= variant_count - C_ROTATING;
+    bool compared = v >= variant_count - SINGLE && v <= variant_count - C_ROTATING;
     for (const struct line *line = from; line < end; line++)
-        if (!layouts && takes_part(line, &variants[v]))
+        if (!compared && takes_part(line, &variants[v]))
             return true;
     return false;
 }
@@ -310,6 +331,23 @@ static void print_layouts(unsigned rounds)
             print_layouts_row(line, false, 0, rounds);
 }
 
+/* Prints the table of one parity beside two. */
+static void print_single(unsigned rounds)
+{
+    unsigned v = variant_count - SINGLE;
+    printf("| work | MiB | d | B | one parity, GB/s | two parities, GB/s | one / two |\n"
+           "|---|---|---|---|---|---|---|\n");
+    for (unsigned k = 0; k < LAID_WORKS; k++)
+        for (unsigned n = 0; n < 2 * MEASURES; n++) {
+            const struct line *line = line_of(laid_works[k], n >= MEASURES, n % MEASURES);
+            const struct job *job = &line->job;
+            if (takes_part(line, &variants[v]))
+                printf("| %s | %zu | %u | %u | %.1f | %.1f | %.2f |\n", titles[job->work],
+                       (n >= MEASURES ? SMALL_BYTES : DATA_BYTES) >> 20, job->d, job->b, speed(line, v, rounds),
+                       speed(line, 0, rounds), 1 / ratio(line, v, rounds));
+        }
+}
+
 /* Prints the terms, the tables, and below them how the ratios are with the machine's other load. */
 void print_report(unsigned rounds)
 {
@@ -324,6 +362,10 @@ void print_report(unsigned rounds)
     print_listed("H", lines + TEST_LINES, lines + SMALL_LINES, test_counts, variant_count - C_LIST_TEST, rounds);
     print_layout_terms();
     print_layouts(rounds);
+    print_p_terms();
+    print_table(lines + P_LINES, lines + LINES, rounds);
+    print_single_terms();
+    print_single(rounds);
     printf("\nWith whatever else ran at the time, by the median over all rounds, a ratio was %.2f to %.2f times the"
            " one shown.\n", least_part, most_part);
 }

@@ -70,6 +70,15 @@ static void parity(uint32_t d, size_t b, size_t stride, uint8_t *first)
         step_row(b, p, q, first + i * stride);
 }
 
+/* P alone of one stripe. */
+static void sum(uint32_t d, size_t b, uint8_t *stripe)
+{
+    uint8_t *p = stripe + d * b;
+    memcpy(p, stripe, b);
+    for (uint32_t i = 1; i < d; i++)
+        add_row(b, p, stripe + i * b);
+}
+
 /* Data block x from P and the other data blocks. */
 static void recover_one(uint32_t d, size_t b, uint32_t x, uint8_t *stripe)
 {
@@ -131,4 +140,4 @@ static void recover_two(uint32_t d, size_t b, uint32_t x, uint32_t y, uint8_t *s
     solve_rows(b, powers[(y - x + 255 - under) % 255], powers[(510 - x - under) % 255], rx, ry, p, p + b);
 }
 
-const struct rows ROWS = {init, parity, recover_one, recover_two, parity_at, recover_at};
+const struct rows ROWS = {init, parity, sum, recover_one, recover_two, parity_at, recover_at};

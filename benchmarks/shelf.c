@@ -18,10 +18,11 @@ size_t list_len(const struct job *job)
     return 4 * (size_t)job->h + 16 * PLACES;
 }
 
-/* Makes a fresh shelf of the job's measures and layout. */
+/* Makes a fresh shelf of the job's measures, layout and parities. */
 void format(struct job *job)
 {
-    struct shelf_record fresh = {{job->d, job->s, job->b, LOG_RECORDS, job->h, PLACES, job->layout}, 0, 0, 0, {false}};
+    struct shelf_record fresh = {
+        {job->d, job->s, job->b, LOG_RECORDS, job->h, PLACES, job->layout, job->parities}, 0, 0, 0, {false}};
     struct shelf_answer a = shelf_format(fresh, BUFFERS(job));
     expect(job, a.code, SHELF_OK);
     job->record = a.shelf;

@@ -1,42 +1,46 @@
 /* The variants that are timed: for each work, the call of this library's archives, of ISA-L where
    it is there, by the code that it chooses and by that for SSE, of the C rows with the doubling in
-   two spellings, of memcpy, of C that knows the layouts and of the archives in the rotating layout, of the
-   C test of the list, and of a call that only tests the list. */
+   two spellings, of memcpy, of the archives without Q, of C that knows the layouts and of the archives in the
+   rotating layout, of the C test of the list, and of a call that only tests the list. */
 #include "bench.h"
 #include "stripe.h"
 
-/* The export of libprobe.a: P and Q of every stripe of an array kept by member. It answers 0. */
-uint32_t probe_make_parity_all(uint32_t d, uint32_t s, uint32_t b, uint8_t *array, size_t len);
+/* The export of libprobe.a: the parity of every stripe of an array kept by member. It answers 0. */
+uint32_t probe_make_parity_all(uint32_t d, uint32_t parities, uint32_t s, uint32_t b, uint8_t *array, size_t len);
 
 static const char ours[] = "this library";
 
 /* Parity of one stripe by the archive. */
 static void ours_parity(const struct job *job)
 {
-    if (stripe_make_parity(job->d, job->b, job->bytes, job->len) != 0)
+    if (stripe_make_parity(job->d, job->parities, job->b, job->bytes, job->len) != 0)
         fail(job, ours, "parity was refused");
 }
 
 /* Recovery of one or two members by the archive. */
 static void ours_recover(const struct job *job)
 {
-    if (stripe_recover(job->d, job->b, job->x, job->y, job->bytes, job->len) != 0)
+    if (stripe_recover(job->d, job->parities, job->b, job->x, job->y, job->bytes, job->len) != 0)
         fail(job, ours, "recovery was refused");
 }
 
 /* Parity of all stripes by the archive. */
 static void ours_all(const struct job *job)
 {
-    if (probe_make_parity_all(job->d, job->s, job->b, job->bytes, job->len) != 0)
+    if (probe_make_parity_all(job->d, job->parities, job->s, job->b, job->bytes, job->len) != 0)
         fail(job, ours, "parity of all stripes was refused");
 }
 
-/* The calls of a set of C rows: parity of one stripe, recovery of one data block and of two, and
-   parity of all stripes. */
+/* The calls of a set of C rows: parity of one stripe with Q and without, recovery of one data block and of
+   two, and parity of all stripes. */
 #define CALLS_OF(set)                                                                              \
     static void set##_parity(const struct job *job)                                                \
     {                                                                                              \
         set##_rows.parity(job->d, job->b, job->b, job->bytes);                                     \
+    }                                                                                              \
+    static void set##_sum(const struct job *job)                                                   \
+    {                                                                                              \
+        set##_rows.sum(job->d, job->b, job->bytes);                                                \
     }                                                                                              \
     static void set##_one(const struct job *job)                                                   \
     {                                                                                              \
@@ -60,12 +64,13 @@ CALLS_OF(mask)
 #define SUMS_OF(set)                                                                               \
     {[PARITY] = set##_pq, [ONE_BLOCK] = set##_xor, [ALL_STRIPES] = set##_pq_all,                   \
      [WRITE] = set##_write, [FETCH_ONE] = set##_xor_all, [REBUILD_ONE] = set##_xor_all,            \
-     [REBUILD_PARITY] = set##_pq_all, [FULL_RESYNC] = set##_pq_all}
+     [REBUILD_PARITY] = set##_pq_all, [FULL_RESYNC] = set##_pq_all, [P_ALONE] = set##_xor}
 #define PRODUCTS_OF(set)                                                                           \
     {[PARITY] = set##_encode, [ONE_BLOCK] = set##_encode, [TWO_BLOCKS] = set##_encode,             \
-     [FETCH_TWO] = set##_encode_all, [REBUILD_TWO] = set##_encode_all}
+     [FETCH_TWO] = set##_encode_all, [REBUILD_TWO] = set##_encode_all, [P_ALONE] = set##_encode}
 #define ROWS_OF(set)                                                                               \
-    {[PARITY] = set##_parity, [ONE_BLOCK] = set##_one, [TWO_BLOCKS] = set##_two, [ALL_STRIPES] = set##_all}
+    {[PARITY] = set##_parity, [ONE_BLOCK] = set##_one, [TWO_BLOCKS] = set##_two, [ALL_STRIPES] = set##_all,   \
+     [P_ALONE] = set##_sum}
 #define LAYOUTS_IN_C                                                                               \
     {[WRITE] = c_write, [READ] = c_read, [FETCH] = c_read, [REBUILD_ONE] = c_rebuild,              \
      [FULL_RESYNC] = c_full_resync}
@@ -77,26 +82,29 @@ const struct variant variants[] = {
       [FETCH_TWO] = ours_fetch_lost, [REBUILD_ONE] = ours_rebuild, [REBUILD_TWO] = ours_rebuild,
       [REBUILD_PARITY] = ours_rebuild, [FULL_RESYNC] = ours_full_resync, [REBUILD_WITH_P] = ours_rebuild,
       [REBUILD_WITH_Q] = ours_rebuild,
-      [LOG_AGAIN] = ours_log, [LOG_NEW] = ours_log, [RESYNC] = ours_resync, [TEST] = ours_test}},
+      [LOG_AGAIN] = ours_log, [LOG_NEW] = ours_log, [RESYNC] = ours_resync, [TEST] = ours_test,
+      [P_ALONE] = ours_parity}, false},
 #ifdef WITH_ISAL
-    {"ISA-L pq_gen, xor_gen", true, SHELF_FIXED, SUMS_OF(isal)},
-    {"the same for SSE", false, SHELF_FIXED, SUMS_OF(isal_sse)},
-    {"ISA-L ec_encode_data", true, SHELF_FIXED, PRODUCTS_OF(isal)},
-    {"the same for SSE", false, SHELF_FIXED, PRODUCTS_OF(isal_sse)},
+    {"ISA-L pq_gen, xor_gen", true, SHELF_FIXED, SUMS_OF(isal), false},
+    {"the same for SSE", false, SHELF_FIXED, SUMS_OF(isal_sse), false},
+    {"ISA-L ec_encode_data", true, SHELF_FIXED, PRODUCTS_OF(isal), false},
+    {"the same for SSE", false, SHELF_FIXED, PRODUCTS_OF(isal_sse), false},
 #endif
-    {"C rows", false, SHELF_FIXED, ROWS_OF(plain)},
-    {"C rows by mask", false, SHELF_FIXED, ROWS_OF(mask)},
+    {"C rows", false, SHELF_FIXED, ROWS_OF(plain), false},
+    {"C rows by mask", false, SHELF_FIXED, ROWS_OF(mask), false},
     {"memcpy", false, SHELF_FIXED,
      {[PARITY] = copy_data, [ONE_BLOCK] = copy_data, [TWO_BLOCKS] = copy_data, [ALL_STRIPES] = copy_data,
-      [READ] = copy_blocks, [FETCH] = copy_blocks}},
-    {"C in the fixed layout", false, SHELF_FIXED, LAYOUTS_IN_C},
+      [READ] = copy_blocks, [FETCH] = copy_blocks, [P_ALONE] = copy_data}, false},
+    {"this library with one parity", false, SHELF_FIXED,
+     {[WRITE] = ours_write, [REBUILD_ONE] = ours_rebuild, [FULL_RESYNC] = ours_full_resync}, true},
+    {"C in the fixed layout", false, SHELF_FIXED, LAYOUTS_IN_C, false},
     {"this library in the rotating layout", false, SHELF_ROTATING,
      {[WRITE] = ours_write, [READ] = ours_read, [FETCH] = ours_fetch, [REBUILD_ONE] = ours_rebuild,
       [REBUILD_TWO] = ours_rebuild, [FULL_RESYNC] = ours_full_resync, [LOG_AGAIN] = ours_log, [LOG_NEW] = ours_log,
-      [RESYNC] = ours_resync}},
-    {"C in the rotating layout", false, SHELF_ROTATING, LAYOUTS_IN_C},
-    {"C test of the list", false, SHELF_FIXED, {[TEST] = c_test}},
-    {"list test", false, SHELF_FIXED, {[LOG_AGAIN] = ours_test, [LOG_NEW] = ours_test, [RESYNC] = ours_test}},
+      [RESYNC] = ours_resync}, false},
+    {"C in the rotating layout", false, SHELF_ROTATING, LAYOUTS_IN_C, false},
+    {"C test of the list", false, SHELF_FIXED, {[TEST] = c_test}, false},
+    {"list test", false, SHELF_FIXED, {[LOG_AGAIN] = ours_test, [LOG_NEW] = ours_test, [RESYNC] = ours_test}, false},
 };
 const unsigned variant_count = sizeof variants / sizeof variants[0];
 
@@ -105,7 +113,14 @@ bool takes_part(const struct line *line, const struct variant *v)
 {
     if (v->call[line->job.work] == NULL)
         return false;
-    if (v->layout == SHELF_ROTATING)
+    if (v->layout == SHELF_ROTATING || v->single)
         return line->rotating;
     return !line->alone || v == variants || v == &variants[variant_count - C_FIXED];
+}
+
+/* A line's job as it is for a variant: in its layout, and without Q where it works so. */
+struct job job_of(const struct line *line, const struct variant *v)
+{
+    struct job job = in_layout(&line->job, v->layout);
+    return v->single ? without_q(&job) : job;
 }

@@ -1,21 +1,34 @@
-/* shelf.h: the record shelf, a log-assisted RAID-6 array. Link with libshelf.a.
+/* shelf.h: the record shelf, a log-assisted array with two parities (RAID-6) or one. Link with libshelf.a.
  *
  *
  * What it is
  * ----------
  *
- * A shelf has an array of d + 2 members with S stripes of blocks of B bytes, a log of L records of B bytes, and a list
- * of the blocks whose parity is put off: H hash slots and E places. The members are numbered: those of the array 0 to
- * d + 1, the log is d + 2. A stripe has a block on each array member: d data blocks and the parity, P and Q. The block
- * with address a, 0 to d * S - 1, is in stripe a / d, rounded down, and has data index a mod d there.
+ * A shelf has an array of N members with S stripes of blocks of B bytes, a log of L records of B bytes, and a list of
+ * the blocks whose parity is put off: H hash slots and E places. A stripe has a block on each array member: d data
+ * blocks and the parity, P and Q or P alone. The block with address a, 0 to d * S - 1, is in stripe a / d, rounded
+ * down, and has data index a mod d there. The members by the count of parities:
  *
- * The layout tells which array member has which block of a stripe. With N for d + 2:
+ *     parities                                  2                 1
+ *     array members                             0 to d + 1        0 to d
+ *     how many, N                               d + 2             d + 1
+ *     in the fixed layout: data                 0 to d - 1        0 to d - 1
+ *                          P                    d                 d
+ *                          Q                    d + 1             none
+ *     the log                                   d + 2             d + 1
+ *     failed at a time, the log included        at most two       at most one
+ *
+ * So a shop with three disks, d 2 and one parity, can lose a disk or the log, and not both. What is said of P and Q
+ * below is said of P alone where there is one parity.
+ *
+ * The layout tells which array member has which block of a stripe:
  *
  *     SHELF_FIXED      data index i is on member i, P on d, Q on d + 1, in every stripe: the members are d data disks,
  *                      P and Q
  *     SHELF_ROTATING   stripe t has P on member N - 1 - (t mod N), Q on the member after it, data index 0 on the member
- *                      after Q, and the other data indices following, all counted round from N - 1 to 0; so all members
- *                      take their share of the parity. With d 2:
+ *                      after Q, or after P if there is no Q, and the other data indices following, all counted round
+ *                      from N - 1 to 0; so all members take their share of the parity. With d 2, and two parities or
+ *                      one:
  *
  *                          stripe     member 0     member 1     member 2     member 3
  *                            0           Q          data 0       data 1         P
@@ -24,12 +37,18 @@
  *                            3           P            Q          data 0       data 1
  *                            4           Q          data 0       data 1         P
  *
+ *                          stripe     member 0     member 1     member 2
+ *                            0         data 0       data 1         P
+ *                            1         data 1         P          data 0
+ *                            2           P          data 0       data 1
+ *                            3         data 0       data 1         P
+ *
  * The parity of a stripe, P and Q, is that of stripe.h, where a stripe's blocks are in the order data, P, Q whatever
  * the layout. A write makes it at once, or puts it off: then it appends blocks to the log, lists them, stores the new
  * blocks on their disks and leaves P and Q as they were. A stripe with a listed block is stale; a resync makes its
- * parity later. Two members may have failed at a time, the log included. There are two reads: shelf_read, the plain
- * one, gives blocks on sound members alone and never enters recovery; shelf_fetch, the recovering one, gives blocks of
- * failed members too (degraded read), save in one state that is named below.
+ * parity later. There are two reads: shelf_read, the plain one, gives blocks on sound members alone and never enters
+ * recovery; shelf_fetch, the recovering one, gives blocks of failed members too (degraded read), save in one state that
+ * is named below.
  *
  * On a shelf that these calls alone have changed since shelf_format, each call given the record that the one before
  * handed back, and the bytes of failed members left aside, every block that a fetch hands over and every data block
@@ -47,9 +66,9 @@
  * buffers and flags, are size_t, of 64 bits. The buffers are at any alignment, and those of one call do not overlap:
  *
  *     buffer   bytes               what stands where
- *     array    (d + 2) * S * B     the block of member m in stripe t, B bytes, at (m * S + t) * B;
+ *     array    N * S * B           the block of member m in stripe t, B bytes, at (m * S + t) * B;
  *                                  block address a, with t = a / d and i = a mod d, is on member m = i in the fixed
- *                                  layout, and m = (N + 1 - t mod N + i) mod N in the rotating one
+ *                                  layout, and m = (N - 1 + parities - t mod N + i) mod N in the rotating one
  *     log      L * B               record r, B bytes, at r * B
  *     list     4 * H + 16 * E      the head of slot i, a word, at 4 * i;
  *                                  place p, four words, at 4 * H + 16 * p:
@@ -58,7 +77,7 @@
  *                                      + 8   Cur, the log record of its latest value
  *                                      + 12  Next, the next place of the chain
  *
- * The largest shelf has 4,831,838,208 bytes of array, 268,435,456 of log and 66,560 of list.
+ * The largest shelf, with two parities, has 4,831,838,208 bytes of array, 268,435,456 of log and 66,560 of list.
  *
  * A word has 32 bits, lowest byte first; SHELF_NONE is none. Heads and Next are place numbers or none, Ori and Cur are
  * numbers of log records or none, in a listed place not both none. An original is the block that P and Q of its stripe
@@ -120,10 +139,15 @@
  * newer record can pass every test, and a fetch then gives an older block. The flags of a record are bytes of 0 or 1: a
  * record that was read from a disk is tested for this by the driver, since a call cannot.
  *
- * A record of an earlier version has no layout: its shelf has the fixed one, and a driver that kept the record as
- * bytes puts 0 in behind e. The layout of a shelf is never changed: it is part of the geometry with which it was
- * formatted. No call can tell that a record has the other one: reads then give other blocks, and parity is stored over
- * data.
+ * A record of an earlier version has no parities, or neither layout nor parities, and is not one of this version: what
+ * comes after them stands elsewhere in it. Its shelf has two parities, and the fixed layout if it names none. So a
+ * driver that kept the record as bytes puts 0 in behind e, if there is no layout, and 2 in behind the layout. A record
+ * whose parities are 0, as where a program does not set them, gets 1.
+ *
+ * Layout and parities of a shelf are never changed: they are part of the geometry with which it was formatted. An array
+ * of the other count with the same d has not the length that the record asks for, and gets 2. No call can tell that a
+ * record has the other layout, or another d with as many members: reads then give other blocks, and parity is stored
+ * over data.
  *
  * The shelf_read of an earlier version, which recovered lost blocks, is shelf_fetch.
  *
@@ -191,12 +215,13 @@
  * whether blocks are listed before it or after it or not: writes go on being logged, where log and list have room.
  *
  * What a rebuild makes and drops goes by stripe: it makes P and Q of a stripe and drops its listed blocks if P or Q of
- * that stripe is on a failed member. In the fixed layout these are all stripes if member d or d + 1 has failed, and
- * none if data disks alone have. In the rotating layout a member has, of N stripes in a row, P of one, Q of another
+ * that stripe is on a failed member. In the fixed layout these are all stripes if P or Q has failed, and none if data
+ * disks alone have. In the rotating layout a member has, of N stripes in a row, P of one, Q of another if there is a Q,
  * and data of the rest, so a rebuild of one member leaves those of the rest stale that were.
  *
  * What the calls answer in each state, where the record, the lengths, the list and the request are in order. "some" is
- * one or two array members (with the log failed, one). The mode is one that the state can have.
+ * one or two array members (with the log failed, one); with one parity it is one, and the last two rows are not there.
+ * The mode is one that the state can have.
  *
  *     failed in   log      a stripe   mode      start   write   resync   rebuild   new_log   full_resync
  *     the array            is stale
@@ -213,10 +238,10 @@
  *
  * In the last row shelf_rebuild answers 14 if the failed member has a data block in a stale stripe, and 0 if it has P
  * or Q in each of them. In that row shelf_fetch answers 14 if it asks for a block on the failed member in a stale
- * stripe; in all other cases it answers 0. In the rows with "some" shelf_read answers 16 if it asks for a data block on
- * a failed member, whether the log is sound or not and the stripe is stale or not; else it answers 0. shelf_fail
- * answers 0 for a sound member while fewer than two have failed, 11 for a sound member while two have failed, and 10
- * for a member that has failed.
+ * stripe; in all other cases it answers 0. So with one parity no call answers 14. In the rows with "some" shelf_read
+ * answers 16 if it asks for a data block on a failed member, whether the log is sound or not and the stripe is stale or
+ * not; else it answers 0. shelf_fail answers 10 for a member that has failed; for a sound one 11 if two have failed, or
+ * with one parity one has, and else 0.
  *
  * The way back to a sound shelf, each call of which is accepted; after it the mode is 0, or as said:
  *
@@ -236,27 +261,29 @@
  * with none stale, one does. shelf_rebuild fills all failed array members in one call. A sound shelf in mode 0 takes
  * shelf_start again.
  *
- * The log failed, and an array member that has a data block in a stale stripe: there is no way back. shelf_rebuild gets
- * 14, shelf_write 8, and so do shelf_resync and shelf_full_resync; shelf_new_log gets 13, shelf_start 7. No call
- * changes the shelf any more, save shelf_format. What can be read are all blocks on sound members, and, by shelf_fetch,
- * those of the failed one in stripes that are not stale. So when the log fails while a stripe is stale, resync at once;
- * and when an array member fails while a stripe is stale, rebuild at once.
+ * The log failed, and an array member that has a data block in a stale stripe, which is noted with two parities only:
+ * there is no way back. shelf_rebuild gets 14, shelf_write 8, and so do shelf_resync and shelf_full_resync;
+ * shelf_new_log gets 13, shelf_start 7. No call changes the shelf any more, save shelf_format. What can be read are all
+ * blocks on sound members, and, by shelf_fetch, those of the failed one in stripes that are not stale. So when the log
+ * fails while a stripe is stale, resync at once; and when an array member fails while a stripe is stale, rebuild at
+ * once.
  *
  * SHELF_WITHHELD (14) and SHELF_BLOCK_FAILED (16) refuse a call as a whole and name no block. Where shelf_read answers
  * 16, shelf_fetch with the same arguments answers 0 or 14. To read the blocks that are not withheld, fetch one by one.
  *
- * A third failure cannot be noted: shelf_fail answers 11, and the calls go on trusting the member. Make no other call
- * then than one that clears a flag and does not look at that member, and report it by the next call: shelf_new_log,
- * if the log is one of the two and no block is listed; shelf_rebuild, if the third is the log, and no stripe is stale
- * or the two have P and Q in each stale stripe; in the fixed layout shelf_rebuild too, if the two are the log and one
- * of P and Q, and the third is the other of these.
+ * A third failure, or with one parity a second, cannot be noted: shelf_fail answers 11, and the calls go on trusting
+ * the member. Make no other call then than one that clears a flag and does not look at that member, and report it by
+ * the next call: shelf_new_log, if the log is among those noted and no block is listed; shelf_rebuild, if the log is
+ * the one that is not noted, and no stripe is stale or those noted have P and Q in each stale stripe; with two parities
+ * and the fixed layout shelf_rebuild too, if the log and one of P and Q are noted, and the third is the other of these.
  *
  * The list is lost (SHELF_BAD_LIST, 3): every call but shelf_format and shelf_full_resync answers 3, shelf_fail too,
  * so a disk that fails now cannot be reported. shelf_full_resync does not look at the list. It trusts every data
  * block: with a dead disk it makes P and Q of garbage, and the blocks of that disk cannot be recovered afterwards. So
  * the driver makes sure that all disks with data work before it calls. With the flag of an array member set the call
  * answers 8, and no call leads on; a failed log does not hinder it. If the record is lost too, one with the geometry,
- * the shelf's own layout included, mode 0, next 0, listed 0, and no flag but that of a failed log serves as well.
+ * the shelf's own layout and parities included, mode 0, next 0, listed 0, and no flag but that of a failed log serves
+ * as well.
  *
  * The log's cycle: to log a stripe takes a record for each block that is written and each that is pre-read, and a
  * place for each of these blocks that is not yet listed; at most d of either. Records are not used again one by one:
@@ -283,6 +310,8 @@ extern "C" {
 /* The ranges of the measures. */
 #define SHELF_MIN_DATA 2
 #define SHELF_MAX_DATA 16
+#define SHELF_MIN_PARITIES 1
+#define SHELF_MAX_PARITIES 2
 #define SHELF_MIN_STRIPES 1
 #define SHELF_MAX_STRIPES 65536
 #define SHELF_MIN_BLOCK 1
@@ -301,7 +330,7 @@ extern "C" {
 /* The word of the list that means none. */
 #define SHELF_NONE UINT32_C(0xffffffff)
 
-/* How many failure flags a record has: one for each member of a shelf with the most disks. */
+/* How many failure flags a record has: one for each member of a shelf with the most disks and two parities. */
 #define SHELF_FLAGS 19
 
 /* The modes. */
@@ -310,18 +339,19 @@ extern "C" {
 #define SHELF_TRANSITIONAL 2 /* blocks are listed */
 
 /* The numbers answered, in the order in which they are tried; SHELF_OK where no other applies. None is 15. */
-#define SHELF_BAD_RECORD 1      /* a measure is outside its range, the layout is neither, or the rest of the record is
-                                 * impossible: see below */
-#define SHELF_BAD_LENGTH 2      /* array_len, log_len or list_len is not what the measures ask for */
+#define SHELF_BAD_RECORD 1      /* a measure is outside its range, the layout is neither, the parities are not 1 or 2,
+                                 * or the rest of the record is impossible: see below */
+#define SHELF_BAD_LENGTH 2      /* array_len is not N * S * B, N being d + parities, log_len not L * B, or list_len not
+                                 * 4 * H + 16 * E */
 #define SHELF_BAD_LIST 3        /* the list is impossible, or not in its one arrangement: see below */
 #define SHELF_BAD_ADDRESS 4     /* count is 0, or address + count is above d * S, as a sum without overflow */
 #define SHELF_BAD_DATA 5        /* data_len is not count * B */
-#define SHELF_BAD_MEMBER 6      /* the member is above d + 2 */
+#define SHELF_BAD_MEMBER 6      /* the member is above d + parities, which is the log */
 #define SHELF_WRONG_MODE 7      /* the mode is not 0 (shelf_start); the mode is 0 (shelf_resync) */
-#define SHELF_ARRAY_FAILED 8    /* a member of the array, 0 to d + 1, has failed */
+#define SHELF_ARRAY_FAILED 8    /* a member of the array has failed */
 #define SHELF_LOG_FAILED 9      /* the log has failed */
 #define SHELF_ALREADY_FAILED 10 /* the member has already failed */
-#define SHELF_TWO_FAILED 11     /* two members have already failed */
+#define SHELF_LIMIT_REACHED 11  /* as many members have already failed as there are parities */
 #define SHELF_NOT_FAILED 12     /* no array member has failed (shelf_rebuild); the log is sound (shelf_new_log) */
 #define SHELF_LISTED 13         /* blocks are listed */
 #define SHELF_WITHHELD 14       /* the log has failed, and a block that is asked for (shelf_fetch), or any data block
@@ -329,14 +359,14 @@ extern "C" {
 #define SHELF_BLOCK_FAILED 16   /* a block that is asked for (shelf_read) is on a failed member */
 #define SHELF_OK 0
 
-/* The record gets SHELF_BAD_RECORD, beside measures outside their ranges and a layout above SHELF_ROTATING, where
+/* The record gets SHELF_BAD_RECORD, beside a geometry outside its ranges, where
  *
  *   - the mode is above 2; or it is 0 and listed above 0, 2 and listed 0, or 1 and the log has failed;
- *   - a flag above that of member d + 2 is set, or more than two flags are;
+ *   - a flag above that of the log, member d + parities, is set, or more flags than there are parities are;
  *   - next is above L, listed is above E, or listed is 0 and next above 0.
  *
- * shelf_format looks at the measures and the layout only. The list gets SHELF_BAD_LIST, from all calls but
- * shelf_format and shelf_full_resync, where
+ * shelf_format looks at the geometry only. The list gets SHELF_BAD_LIST, from all calls but shelf_format and
+ * shelf_full_resync, where
  *
  *   - the blocks in the list are more or fewer than listed, or do not fill the places from 0 on: one of the places 0 to
  *     listed - 1 has no address, or a word of a place from listed on is not none;
@@ -355,13 +385,14 @@ extern "C" {
 
 /* The measures of a shelf. */
 struct shelf_geometry {
-    size_t d;      /* data blocks of a stripe, 2 to 16 */
-    size_t s;      /* S: stripes, 1 to 65536 */
-    size_t b;      /* B: bytes of a block and of a log record, 1 to 4096 */
-    size_t l;      /* L: records of the log, 1 to 65536 */
-    size_t h;      /* H: slots of the list, 1 to 256 */
-    size_t e;      /* E: places of the list, 1 to 4096 */
-    size_t layout; /* SHELF_FIXED or SHELF_ROTATING */
+    size_t d;        /* data blocks of a stripe, 2 to 16 */
+    size_t s;        /* S: stripes, 1 to 65536 */
+    size_t b;        /* B: bytes of a block and of a log record, 1 to 4096 */
+    size_t l;        /* L: records of the log, 1 to 65536 */
+    size_t h;        /* H: slots of the list, 1 to 256 */
+    size_t e;        /* E: places of the list, 1 to 4096 */
+    size_t layout;   /* SHELF_FIXED or SHELF_ROTATING */
+    size_t parities; /* 2: P and Q; 1: P */
 };
 
 /* The record of a shelf. */
@@ -418,7 +449,7 @@ struct shelf_answer shelf_start(struct shelf_record shelf, const uint8_t *array,
 
 /* Notes that a member has failed.
  *
- *   member   0 to d + 2
+ *   member   0 to d + parities
  *
  * Answers 0, 1, 2, 3, 6, 10 or 11. With 0, the record handed back is the given one with the member's flag set; if the
  * member is the log, mode 1 becomes 2 where blocks are listed, else 0.

@@ -1,23 +1,23 @@
-/* stripe.h: the RAID-6 parity of one stripe, made and recovered. Link with libstripe.a.
+/* stripe.h: the parity of one stripe, made and recovered: P and Q (RAID-6), or P alone. Link with libstripe.a.
  *
- * A stripe has d data blocks, P and Q, all of b bytes. It is one buffer of (d + 2) * b bytes, at any alignment, that
- * holds the members in the order of their numbers:
+ * A stripe has d data blocks and one or two parities, all of b bytes. It is one buffer of (d + parities) * b bytes, at
+ * any alignment, that holds the members in the order of their numbers:
  *
- *     member          offset          bytes
- *     0       data 0  0               b
- *     1       data 1  b               b
+ *     member          offset          bytes   with parities
+ *     0       data 0  0               b       2, 1
+ *     1       data 1  b               b       2, 1
  *     ..
- *     d - 1   data    (d - 1) * b     b
- *     d       P       d * b           b
- *     d + 1   Q       (d + 1) * b     b
+ *     d - 1   data    (d - 1) * b     b       2, 1
+ *     d       P       d * b           b       2, 1
+ *     d + 1   Q       (d + 1) * b     b       2
  *
  * Byte j of P is the exclusive or of byte j of all data blocks. Byte j of Q is the sum, over the data blocks i, of 2 to
  * the power i times byte j of block i, in the field of 256 elements with polynomial 0x11D, where a sum is an exclusive
- * or. This is the parity of H. P. Anvin, "The mathematics of RAID-6".
+ * or. This is the parity of H. P. Anvin, "The mathematics of RAID-6". P is the same with either count.
  *
- * Both calls take any numbers and any length. They answer 0, or they refuse with the first of 1, 2 and 6 that applies;
- * a refusal stores nothing. There is no state and no allocation; a call needs a few pages of stack. Calls may run at
- * the same time, in any number of threads, as long as their buffers do not overlap.
+ * Both calls take any numbers and any length. They answer 0, or they refuse with the first of 1, 2, 6 and 11 that
+ * applies; a refusal stores nothing. There is no state and no allocation; a call needs a few pages of stack. Calls may
+ * run at the same time, in any number of threads, as long as their buffers do not overlap.
  */
 #ifndef KUMIROVE_STRIPE_H
 #define KUMIROVE_STRIPE_H
@@ -29,39 +29,46 @@
 extern "C" {
 #endif
 
-/* The ranges of d and b. */
+/* The ranges of d, parities and b. */
 #define STRIPE_MIN_DATA 2
 #define STRIPE_MAX_DATA 16
+#define STRIPE_MIN_PARITIES 1
+#define STRIPE_MAX_PARITIES 2
 #define STRIPE_MIN_BLOCK 1
 #define STRIPE_MAX_BLOCK 4096
 
 /* The numbers answered, in the order in which they are tried; STRIPE_OK where no other applies. */
-#define STRIPE_BAD_MEASURES 1 /* d is not 2 to 16, or b is not 1 to 4096 */
-#define STRIPE_BAD_LENGTH 2   /* len is not (d + 2) * b */
-#define STRIPE_BAD_MEMBER 6   /* x or y is above d + 1 (stripe_recover only) */
+#define STRIPE_BAD_MEASURES 1 /* d is not 2 to 16, parities not 1 or 2, or b not 1 to 4096 */
+#define STRIPE_BAD_LENGTH 2   /* len is not (d + parities) * b */
+#define STRIPE_BAD_MEMBER 6   /* x or y is not below d + parities (stripe_recover only) */
+#define STRIPE_TWO_MISSING 11 /* x and y differ, and there is one parity (stripe_recover only) */
 #define STRIPE_OK 0
 
-/* Makes P and Q of the data.
+/* Makes the parities of the data.
  *
- *   d       how many data blocks the stripe has, 2 to 16
- *   b       how many bytes a block has, 1 to 4096
- *   stripe  the buffer, not NULL; P and Q may hold anything
- *   len     how many bytes the buffer has, (d + 2) * b
+ *   d         how many data blocks the stripe has, 2 to 16
+ *   parities  2: P and Q; 1: P
+ *   b         how many bytes a block has, 1 to 4096
+ *   stripe    the buffer, not NULL; P and Q may hold anything
+ *   len       how many bytes the buffer has, (d + parities) * b
  *
- * Answers 0, 1 or 2. With 0, P and Q are stored and the data is as it was; with 1 or 2, nothing is stored.
+ * Answers 0, 1 or 2. With 0, P and, with two parities, Q are stored and the data is as it was; with 1 or 2, nothing is
+ * stored.
  */
-uint32_t stripe_make_parity(uint32_t d, uint32_t b, uint8_t *stripe, size_t len);
+uint32_t stripe_make_parity(uint32_t d, uint32_t parities, uint32_t b, uint8_t *stripe, size_t len);
 
-/* Recovers one or two missing members from the others.
+/* Recovers missing members from the others: one, or with two parities one or two.
  *
- *   d       how many data blocks the stripe has, 2 to 16
- *   b       how many bytes a block has, 1 to 4096
- *   x, y    the missing members, 0 to d + 1 each, in either order; the same number twice names one missing member
- *   stripe  the buffer, not NULL; the missing members may hold anything
- *   len     how many bytes the buffer has, (d + 2) * b
+ *   d         how many data blocks the stripe has, 2 to 16
+ *   parities  2: P and Q; 1: P
+ *   b         how many bytes a block has, 1 to 4096
+ *   x, y      the missing members, below d + parities each, in either order; the same number twice names one missing
+ *             member
+ *   stripe    the buffer, not NULL; the missing members may hold anything
+ *   len       how many bytes the buffer has, (d + parities) * b
  *
- * Answers 0, 1, 2 or 6. With 0, the missing members are stored and all others are as they were; with 1, 2 or 6, nothing
- * is stored. What is stored, by what is missing:
+ * Answers 0, 1, 2, 6 or 11. With 0, the missing members are stored and all others are as they were; else nothing is
+ * stored. What is stored, by what is missing:
  *
  *   a data block            it, from P
  *   a data block and Q      the data from P, then Q from the data
@@ -72,7 +79,7 @@ uint32_t stripe_make_parity(uint32_t d, uint32_t b, uint8_t *stripe, size_t len)
  * The members that are there are taken as they are: the call does not test whether they agree with each other. If they
  * are those of a stripe that stripe_make_parity made, the buffer is that stripe again.
  */
-uint32_t stripe_recover(uint32_t d, uint32_t b, uint32_t x, uint32_t y, uint8_t *stripe, size_t len);
+uint32_t stripe_recover(uint32_t d, uint32_t parities, uint32_t b, uint32_t x, uint32_t y, uint8_t *stripe, size_t len);
 
 #ifdef __cplusplus
 }

@@ -8,8 +8,8 @@
 
 #include <string.h>
 
-typedef uint32_t (*make_call)(uint32_t, uint32_t, uint8_t *, size_t);
-typedef uint32_t (*recover_call)(uint32_t, uint32_t, uint32_t, uint32_t, uint8_t *, size_t);
+typedef uint32_t (*make_call)(uint32_t, uint32_t, uint32_t, uint8_t *, size_t);
+typedef uint32_t (*recover_call)(uint32_t, uint32_t, uint32_t, uint32_t, uint32_t, uint8_t *, size_t);
 
 /* Format stores into all three buffers; start and new log only look at them, and fail takes a member besides. */
 typedef struct shelf_answer (*format_call)(struct shelf_record, uint8_t *, size_t, uint8_t *, size_t, uint8_t *,
@@ -31,8 +31,34 @@ typedef struct shelf_resynced (*resync_call)(struct shelf_record, uint8_t *, siz
 typedef struct shelf_answer (*mend_call)(struct shelf_record, uint8_t *, size_t, const uint8_t *, size_t, uint8_t *,
                                          size_t);
 
-/* Makes a stripe, recovers two blocks of it and has each number answered once. Hands back the number of the first check
- * that fails, as the functions below do, or 0. */
+/* Makes a stripe without Q, recovers a block of it and P, and has the numbers of its count answered. Hands back the
+ * number of the first check that fails, as the functions below do, or 0. */
+static int stripe_without_q(void)
+{
+    const make_call make = stripe_make_parity;
+    const recover_call recover = stripe_recover;
+    const uint8_t sound[5] = {1, 2, 7, 4, 77};
+    uint8_t stripe[5] = {1, 2, 7, 77, 77};
+
+    if (make(3, 1, 1, stripe, 4) != STRIPE_OK || memcmp(stripe, sound, sizeof sound) != 0)
+        return 6;
+    stripe[1] = 77;
+    if (recover(3, 1, 1, 1, 1, stripe, 4) != STRIPE_OK || memcmp(stripe, sound, sizeof sound) != 0)
+        return 7;
+    stripe[3] = 77;
+    if (recover(3, 1, 1, 3, 3, stripe, 4) != STRIPE_OK || memcmp(stripe, sound, sizeof sound) != 0)
+        return 8;
+    if (make(3, 1, 1, stripe, 5) != STRIPE_BAD_LENGTH || recover(3, 1, 1, 0, 4, stripe, 4) != STRIPE_BAD_MEMBER ||
+        recover(3, 1, 1, 0, 3, stripe, 4) != STRIPE_TWO_MISSING)
+        return 9;
+    if (make(3, STRIPE_MIN_PARITIES - 1, 1, stripe, 3) != STRIPE_BAD_MEASURES ||
+        make(2, STRIPE_MAX_PARITIES + 1, 1, stripe, 5) != STRIPE_BAD_MEASURES ||
+        memcmp(stripe, sound, sizeof sound) != 0)
+        return 10;
+    return 0;
+}
+
+/* Makes a stripe, recovers two blocks of it and has each number answered once; then goes on with one without Q. */
 static int stripe_calls(void)
 {
     const make_call make = stripe_make_parity;
@@ -40,52 +66,54 @@ static int stripe_calls(void)
     const uint8_t sound[5] = {1, 2, 3, 0, 9};
     uint8_t stripe[5] = {1, 2, 3, 77, 77};
 
-    if (make(3, 1, stripe, sizeof stripe) != STRIPE_OK || memcmp(stripe, sound, sizeof sound) != 0)
+    if (make(3, 2, 1, stripe, sizeof stripe) != STRIPE_OK || memcmp(stripe, sound, sizeof sound) != 0)
         return 1;
     stripe[0] = stripe[1] = 77;
-    if (recover(3, 1, 0, 1, stripe, sizeof stripe) != STRIPE_OK || memcmp(stripe, sound, sizeof sound) != 0)
+    if (recover(3, 2, 1, 0, 1, stripe, sizeof stripe) != STRIPE_OK || memcmp(stripe, sound, sizeof sound) != 0)
         return 2;
-    if (make(STRIPE_MAX_DATA + 1, 1, stripe, sizeof stripe) != STRIPE_BAD_MEASURES)
+    if (make(STRIPE_MAX_DATA + 1, 2, 1, stripe, sizeof stripe) != STRIPE_BAD_MEASURES)
         return 3;
-    if (make(STRIPE_MIN_DATA, STRIPE_MAX_BLOCK, stripe, sizeof stripe) != STRIPE_BAD_LENGTH)
+    if (make(STRIPE_MIN_DATA, 2, STRIPE_MAX_BLOCK, stripe, sizeof stripe) != STRIPE_BAD_LENGTH)
         return 4;
-    if (recover(3, STRIPE_MIN_BLOCK, 0, 5, stripe, sizeof stripe) != STRIPE_BAD_MEMBER)
+    if (recover(3, 2, STRIPE_MIN_BLOCK, 0, 5, stripe, sizeof stripe) != STRIPE_BAD_MEMBER)
         return 5;
-    return 0;
+    return stripe_without_q();
 }
 
 /* Compares the compiler's layout of the record and the answers with the library's: numbers of eight bytes in the order
  * of the header, then nineteen flags of one byte, and no gap before the last. */
 static int shelf_layout(void)
 {
-    const size_t numbers[10] = {
+    const size_t numbers[11] = {
         offsetof(struct shelf_record, geometry.d),      offsetof(struct shelf_record, geometry.s),
         offsetof(struct shelf_record, geometry.b),      offsetof(struct shelf_record, geometry.l),
         offsetof(struct shelf_record, geometry.h),      offsetof(struct shelf_record, geometry.e),
-        offsetof(struct shelf_record, geometry.layout), offsetof(struct shelf_record, mode),
-        offsetof(struct shelf_record, next),            offsetof(struct shelf_record, listed),
+        offsetof(struct shelf_record, geometry.layout), offsetof(struct shelf_record, geometry.parities),
+        offsetof(struct shelf_record, mode),            offsetof(struct shelf_record, next),
+        offsetof(struct shelf_record, listed),
     };
     size_t i;
 
-    for (i = 0; i < 10; i++)
+    for (i = 0; i < 11; i++)
         if (numbers[i] != 8 * i)
             return 11;
-    if (offsetof(struct shelf_record, failed) != 80 || sizeof(bool) != 1)
+    if (offsetof(struct shelf_record, failed) != 88 || sizeof(bool) != 1)
         return 12;
-    if (sizeof(struct shelf_geometry) != 56 || sizeof(struct shelf_record) != 104)
+    if (sizeof(struct shelf_geometry) != 64 || sizeof(struct shelf_record) != 112)
         return 13;
     if (offsetof(struct shelf_answer, code) != 0 || offsetof(struct shelf_answer, shelf) != 8 ||
-        sizeof(struct shelf_answer) != 112)
+        sizeof(struct shelf_answer) != 120)
         return 14;
     if (offsetof(struct shelf_resynced, code) != 0 || offsetof(struct shelf_resynced, stripe) != 8 ||
-        offsetof(struct shelf_resynced, shelf) != 16 || sizeof(struct shelf_resynced) != 120)
+        offsetof(struct shelf_resynced, shelf) != 16 || sizeof(struct shelf_resynced) != 128)
         return 15;
     return 0;
 }
 
 /* The buffers of a shelf of 3 data disks, 2 stripes, blocks of 5 bytes, 4 log records, 2 slots and 4 places. Its parity
- * is fixed but where another layout is named. */
+ * is fixed but where another layout is named, and it has P and Q but where one parity is; array_len is then less. */
 static uint8_t array[50], log_bytes[20], list[72];
+static size_t array_len = sizeof array;
 
 /* Whether all bytes of a buffer are the same one. */
 static int all(const uint8_t *bytes, size_t count, uint8_t byte)
@@ -98,8 +126,8 @@ static int all(const uint8_t *bytes, size_t count, uint8_t byte)
     return 1;
 }
 
-/* Whether a record has the geometry of that shelf in this layout, these numbers and these failed members, bit i for
- * member i. */
+/* Whether a record has the geometry of that shelf in this layout and with as many parities as the array has, these
+ * numbers and these failed members, bit i for member i. */
 static int is_of(size_t layout, struct shelf_record shelf, size_t mode, size_t next, size_t listed, uint32_t failed)
 {
     const struct shelf_geometry g = shelf.geometry;
@@ -109,7 +137,7 @@ static int is_of(size_t layout, struct shelf_record shelf, size_t mode, size_t n
         if (shelf.failed[i] != ((failed >> i & 1) != 0))
             return 0;
     return g.d == 3 && g.s == 2 && g.b == 5 && g.l == 4 && g.h == 2 && g.e == 4 && g.layout == layout &&
-           shelf.mode == mode && shelf.next == next && shelf.listed == listed;
+           (3 + g.parities) * 10 == array_len && shelf.mode == mode && shelf.next == next && shelf.listed == listed;
 }
 
 /* The same in the fixed layout. */
@@ -127,13 +155,13 @@ static int same(struct shelf_record a, struct shelf_record b)
 /* Makes a call on that shelf that only looks at the buffers. */
 static struct shelf_answer on(look_call call, struct shelf_record shelf)
 {
-    return call(shelf, array, sizeof array, log_bytes, sizeof log_bytes, list, sizeof list);
+    return call(shelf, array, array_len, log_bytes, sizeof log_bytes, list, sizeof list);
 }
 
 /* Has a member of that shelf fail. */
 static struct shelf_answer member_of(fail_call call, struct shelf_record shelf, size_t member)
 {
-    return call(shelf, member, array, sizeof array, log_bytes, sizeof log_bytes, list, sizeof list);
+    return call(shelf, member, array, array_len, log_bytes, sizeof log_bytes, list, sizeof list);
 }
 
 /* Formats that shelf. */
@@ -141,7 +169,7 @@ static struct shelf_answer format(struct shelf_record shelf)
 {
     const format_call call = shelf_format;
 
-    return call(shelf, array, sizeof array, log_bytes, sizeof log_bytes, list, sizeof list);
+    return call(shelf, array, array_len, log_bytes, sizeof log_bytes, list, sizeof list);
 }
 
 /* Writes blocks of that shelf. */
@@ -150,7 +178,7 @@ static struct shelf_answer write_blocks(struct shelf_record shelf, size_t addres
 {
     const write_call call = shelf_write;
 
-    return call(shelf, address, count, data, data_len, array, sizeof array, log_bytes, sizeof log_bytes, list,
+    return call(shelf, address, count, data, data_len, array, array_len, log_bytes, sizeof log_bytes, list,
                 sizeof list);
 }
 
@@ -158,7 +186,7 @@ static struct shelf_answer write_blocks(struct shelf_record shelf, size_t addres
 static struct shelf_answer read_blocks(read_call call, struct shelf_record shelf, size_t address, size_t count,
                                        uint8_t *data, size_t data_len)
 {
-    return call(shelf, address, count, data, data_len, array, sizeof array, log_bytes, sizeof log_bytes, list,
+    return call(shelf, address, count, data, data_len, array, array_len, log_bytes, sizeof log_bytes, list,
                 sizeof list);
 }
 
@@ -167,13 +195,13 @@ static struct shelf_resynced resync(struct shelf_record shelf)
 {
     const resync_call call = shelf_resync;
 
-    return call(shelf, array, sizeof array, log_bytes, sizeof log_bytes, list, sizeof list);
+    return call(shelf, array, array_len, log_bytes, sizeof log_bytes, list, sizeof list);
 }
 
 /* Rebuilds or fully resyncs that shelf. */
 static struct shelf_answer mended(mend_call call, struct shelf_record shelf)
 {
-    return call(shelf, array, sizeof array, log_bytes, sizeof log_bytes, list, sizeof list);
+    return call(shelf, array, array_len, log_bytes, sizeof log_bytes, list, sizeof list);
 }
 
 /* Puts a word into the list. */
@@ -235,7 +263,7 @@ static int shelf_listed(struct shelf_record shelf)
 /* Formats a shelf, starts it, has members fail, and has each number answered once. */
 static int shelf_calls(void)
 {
-    struct shelf_record shelf = {{3, 2, 5, 4, 2, 4, 0}, 9, 9, 9, {true, true, true}};
+    struct shelf_record shelf = {{3, 2, 5, 4, 2, 4, 0, 2}, 9, 9, 9, {true, true, true}};
     struct shelf_answer answer;
 
     memset(array, 77, sizeof array);
@@ -263,7 +291,7 @@ static int shelf_calls(void)
         return 28;
     if (on(shelf_start, answer.shelf).code != SHELF_ARRAY_FAILED ||
         member_of(shelf_fail, answer.shelf, 4).code != SHELF_ALREADY_FAILED ||
-        member_of(shelf_fail, answer.shelf, 0).code != SHELF_TWO_FAILED ||
+        member_of(shelf_fail, answer.shelf, 0).code != SHELF_LIMIT_REACHED ||
         member_of(shelf_fail, answer.shelf, 6).code != SHELF_BAD_MEMBER)
         return 29;
     answer = on(shelf_start, shelf);
@@ -377,7 +405,7 @@ static int blocks_resynced(struct shelf_record shelf)
  * through the calls that serve blocks and bring parity up to date. */
 static int shelf_blocks(void)
 {
-    const struct shelf_record fresh = {{3, 2, 5, 4, 2, 4, 0}, 0, 0, 0, {false}};
+    const struct shelf_record fresh = {{3, 2, 5, 4, 2, 4, 0, 2}, 0, 0, 0, {false}};
     const struct shelf_record started = on(shelf_start, format(fresh).shelf).shelf;
     const struct shelf_answer rebuilt = mended(shelf_rebuild, member_of(shelf_fail, started, 3).shelf);
     struct shelf_record logged = rebuilt.shelf;
@@ -425,7 +453,7 @@ static int rotating_reads(struct shelf_record shelf)
  * listed. The shelf goes on accelerating: block 1 is logged as 6, from log record 0 on. */
 static int shelf_rotates(void)
 {
-    const struct shelf_record fresh = {{3, 2, 5, 4, 2, 4, 1}, 0, 0, 0, {false}};
+    const struct shelf_record fresh = {{3, 2, 5, 4, 2, 4, 1, 2}, 0, 0, 0, {false}};
     const uint8_t four[20] = {1, 1, 1, 1, 1, 2, 2, 2, 2, 2, 3, 3, 3, 3, 3, 5, 5, 5, 5, 5};
     const uint8_t sevens[5] = {7, 7, 7, 7, 7}, sixes[5] = {6, 6, 6, 6, 6};
     struct shelf_answer answer = write_blocks(format(fresh).shelf, 0, 4, four, sizeof four);
@@ -462,6 +490,100 @@ static int shelf_rotates(void)
     return 0;
 }
 
+/* On that shelf with one parity and nothing listed, sound: the numbers of its members, flags and count. The log is
+ * member 4, and one member may be failed. */
+static int single_numbers(struct shelf_record shelf)
+{
+    struct shelf_answer answer = member_of(shelf_fail, shelf, 4);
+    struct shelf_record other = shelf;
+
+    if (answer.code != SHELF_OK || !answer.shelf.failed[4] || on(shelf_start, answer.shelf).code != SHELF_LOG_FAILED)
+        return 81;
+    if (member_of(shelf_fail, answer.shelf, 0).code != SHELF_LIMIT_REACHED ||
+        member_of(shelf_fail, answer.shelf, 4).code != SHELF_ALREADY_FAILED ||
+        member_of(shelf_fail, answer.shelf, 5).code != SHELF_BAD_MEMBER ||
+        mended(shelf_rebuild, answer.shelf).code != SHELF_NOT_FAILED ||
+        on(shelf_new_log, answer.shelf).code != SHELF_OK)
+        return 82;
+    answer.shelf.failed[0] = true;
+    other.failed[5] = true;
+    if (on(shelf_start, answer.shelf).code != SHELF_BAD_RECORD || on(shelf_start, other).code != SHELF_BAD_RECORD)
+        return 83;
+    other = shelf;
+    other.geometry.parities = SHELF_MAX_PARITIES;
+    if (on(shelf_start, other).code != SHELF_BAD_LENGTH || format(other).code != SHELF_BAD_LENGTH)
+        return 84;
+    other.geometry.parities = SHELF_MAX_PARITIES + 1;
+    if (on(shelf_start, other).code != SHELF_BAD_RECORD || format(other).code != SHELF_BAD_RECORD)
+        return 85;
+    other.geometry.parities = SHELF_MIN_PARITIES - 1;
+    if (on(shelf_start, other).code != SHELF_BAD_RECORD || format(other).code != SHELF_BAD_RECORD)
+        return 86;
+    return 0;
+}
+
+/* On that shelf with one parity, with blocks 0 to 2 written as 1, 2, 3 and block 1 logged as 7: disk 0 fails and is
+ * overwritten, fetched, refused to a plain read, and rebuilt. Then P is, and nothing remains listed. */
+static int single_mended(size_t layout, struct shelf_record shelf)
+{
+    struct shelf_answer answer = member_of(shelf_fail, shelf, 0);
+    uint8_t two[10];
+
+    memset(array, 55, 10);
+    memset(two, 9, sizeof two);
+    if (answer.code != SHELF_OK || member_of(shelf_fail, answer.shelf, 1).code != SHELF_LIMIT_REACHED)
+        return 91;
+    if (read_blocks(shelf_read, answer.shelf, 0, 2, two, sizeof two).code != SHELF_BLOCK_FAILED || !all(two, 10, 9))
+        return 92;
+    if (read_blocks(shelf_fetch, answer.shelf, 0, 2, two, sizeof two).code != SHELF_OK || !all(two, 5, 1) ||
+        !all(two + 5, 5, 7))
+        return 93;
+    answer = mended(shelf_rebuild, answer.shelf);
+    if (answer.code != SHELF_OK || !is_of(layout, answer.shelf, SHELF_ACCELERATING, 2, 1, 0) || !block_is(0, 0, 1))
+        return 94;
+    answer = member_of(shelf_fail, answer.shelf, 3);
+    memset(array + 30, 55, 10);
+    answer = mended(shelf_rebuild, answer.shelf);
+    if (answer.code != SHELF_OK || !is_of(layout, answer.shelf, SHELF_ACCELERATING, 0, 0, 0) || !block_is(3, 0, 5) ||
+        !all(list, sizeof list, 255))
+        return 95;
+    return 0;
+}
+
+/* Formats that shelf with one parity, writes blocks 0 to 3 as 1, 2, 3 and 5, and logs block 1 as 7. In stripe 0 P is on
+ * member 3 in either layout; in stripe 1 it is on member 3, and where it rotates on member 2, with block 3 on member 3.
+ * The ten bytes after the array are not touched. */
+static int shelf_single(size_t layout)
+{
+    const struct shelf_record fresh = {{3, 2, 5, 4, 2, 4, layout, 1}, 0, 0, 0, {false}};
+    const uint8_t four[20] = {1, 1, 1, 1, 1, 2, 2, 2, 2, 2, 3, 3, 3, 3, 3, 5, 5, 5, 5, 5};
+    const uint8_t sevens[5] = {7, 7, 7, 7, 7};
+    struct shelf_answer answer = format(fresh);
+    int fault;
+
+    if (answer.code != SHELF_BAD_LENGTH)
+        return 101;
+    array_len = 40;
+    memset(array, 66, sizeof array);
+    answer = write_blocks(format(fresh).shelf, 0, 4, four, sizeof four);
+    if (answer.code != SHELF_OK || !block_is(0, 0, 1) || !block_is(1, 0, 2) || !block_is(2, 0, 3) || !block_is(3, 0, 0))
+        return 102;
+    if (!block_is(layout == SHELF_FIXED ? 0 : 2, 1, 5) || !block_is(layout == SHELF_FIXED ? 2 : 0, 1, 0) ||
+        !block_is(1, 1, 0) || !block_is(3, 1, 5))
+        return 103;
+    fault = single_numbers(answer.shelf);
+    if (fault != 0)
+        return fault;
+    answer = write_blocks(on(shelf_start, answer.shelf).shelf, 1, 1, sevens, sizeof sevens);
+    if (answer.code != SHELF_OK || !is_of(layout, answer.shelf, SHELF_ACCELERATING, 2, 1, 0) || !block_is(3, 0, 0))
+        return 104;
+    fault = single_mended(layout, answer.shelf);
+    if (fault == 0 && !all(array + 40, 10, 66))
+        fault = 105;
+    array_len = sizeof array;
+    return fault;
+}
+
 /* Goes through both headers. */
 int main(void)
 {
@@ -475,5 +597,9 @@ int main(void)
         fault = shelf_blocks();
     if (fault == 0)
         fault = shelf_rotates();
+    if (fault == 0)
+        fault = shelf_single(SHELF_FIXED);
+    if (fault == 0)
+        fault = shelf_single(SHELF_ROTATING);
     return fault;
 }

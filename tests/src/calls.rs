@@ -6,10 +6,10 @@ use std::fmt;
 /// The functions of the archives: the first two as include/stripe.h declares them, the others exports for tests.
 mod archive {
     extern "C" {
-        pub fn stripe_make_parity(d: u32, b: u32, stripe: *mut u8, len: usize) -> u32;
-        pub fn stripe_recover(d: u32, b: u32, x: u32, y: u32, stripe: *mut u8, len: usize) -> u32;
+        pub fn stripe_make_parity(d: u32, parities: u32, b: u32, stripe: *mut u8, len: usize) -> u32;
+        pub fn stripe_recover(d: u32, parities: u32, b: u32, x: u32, y: u32, stripe: *mut u8, len: usize) -> u32;
         pub fn probe_mul(a: u32, b: u32) -> u32;
-        pub fn probe_make_parity_all(d: u32, s: u32, b: u32, array: *mut u8, len: usize) -> u32;
+        pub fn probe_make_parity_all(d: u32, parities: u32, s: u32, b: u32, array: *mut u8, len: usize) -> u32;
     }
 }
 
@@ -32,54 +32,56 @@ const fn guards() -> [u8; GUARD] {
 /// A call and the numbers that it is given.
 #[derive(Clone, Copy)]
 pub enum Call {
-    Make { d: u32, b: u32 },
-    Recover { d: u32, b: u32, x: u32, y: u32 },
-    MakeAll { d: u32, s: u32, b: u32 },
+    Make { d: u32, parities: u32, b: u32 },
+    Recover { d: u32, parities: u32, b: u32, x: u32, y: u32 },
+    MakeAll { d: u32, parities: u32, s: u32, b: u32 },
 }
 
 impl fmt::Display for Call {
     /// Writes the call as a failure names it.
     fn fmt(&self, out: &mut fmt::Formatter) -> fmt::Result {
         match self {
-            Call::Make { d, b } => write!(out, "stripe_make_parity(d {d}, b {b}"),
-            Call::Recover { d, b, x, y } => {
-                write!(out, "stripe_recover(d {d}, b {b}, x {x}, y {y}")
+            Call::Make { d, parities, b } => write!(out, "stripe_make_parity(d {d}, parities {parities}, b {b}"),
+            Call::Recover { d, parities, b, x, y } => {
+                write!(out, "stripe_recover(d {d}, parities {parities}, b {b}, x {x}, y {y}")
             }
-            Call::MakeAll { d, s, b } => write!(out, "probe_make_parity_all(d {d}, s {s}, b {b}"),
+            Call::MakeAll { d, parities, s, b } => {
+                write!(out, "probe_make_parity_all(d {d}, parities {parities}, s {s}, b {b}")
+            }
         }
     }
 }
 
 impl Call {
     /// The call that makes the parity of a stripe.
-    pub fn make(d: usize, b: usize) -> Call {
-        Call::Make { d: d as u32, b: b as u32 }
+    pub fn make(d: usize, parities: usize, b: usize) -> Call {
+        Call::Make { d: d as u32, parities: parities as u32, b: b as u32 }
     }
 
     /// The call that recovers members x and y of a stripe.
-    pub fn recover(d: usize, b: usize, x: usize, y: usize) -> Call {
-        Call::Recover { d: d as u32, b: b as u32, x: x as u32, y: y as u32 }
+    pub fn recover(d: usize, parities: usize, b: usize, x: usize, y: usize) -> Call {
+        Call::Recover { d: d as u32, parities: parities as u32, b: b as u32, x: x as u32, y: y as u32 }
     }
 
     /// The call that makes the parity of every stripe of an array kept by member.
-    pub fn make_all(d: usize, s: usize, b: usize) -> Call {
-        Call::MakeAll { d: d as u32, s: s as u32, b: b as u32 }
+    pub fn make_all(d: usize, parities: usize, s: usize, b: usize) -> Call {
+        Call::MakeAll { d: d as u32, parities: parities as u32, s: s as u32, b: b as u32 }
     }
 
-    /// The d, s and b that the call is given; s is 1 for a call on one stripe.
-    fn measures(self) -> (u32, u32, u32) {
+    /// The d, parities, s and b that the call is given; s is 1 for a call on one stripe.
+    pub fn measures(self) -> [u32; 4] {
         match self {
-            Call::Make { d, b } | Call::Recover { d, b, .. } => (d, 1, b),
-            Call::MakeAll { d, s, b } => (d, s, b),
+            Call::Make { d, parities, b } | Call::Recover { d, parities, b, .. } => [d, parities, 1, b],
+            Call::MakeAll { d, parities, s, b } => [d, parities, s, b],
         }
     }
 
     /// A number from 0 to 15 by which the buffer is moved, so that calls get buffers at every alignment.
     fn shift(self) -> usize {
         let sum = match self {
-            Call::Make { d, b } => d.wrapping_add(b),
-            Call::Recover { d, b, x, y } => d.wrapping_add(b).wrapping_add(x.wrapping_mul(5)).wrapping_add(y),
-            Call::MakeAll { d, s, b } => d.wrapping_add(s.wrapping_mul(3)).wrapping_add(b),
+            Call::Make { d, b, .. } => d.wrapping_add(b),
+            Call::Recover { d, b, x, y, .. } => d.wrapping_add(b).wrapping_add(x.wrapping_mul(5)).wrapping_add(y),
+            Call::MakeAll { d, s, b, .. } => d.wrapping_add(s.wrapping_mul(3)).wrapping_add(b),
         };
         sum as usize % 16
     }
@@ -89,9 +91,9 @@ impl Call {
         // SAFETY: the address is that of a buffer of len bytes, or len is one that the call must refuse unseen.
         unsafe {
             match self {
-                Call::Make { d, b } => archive::stripe_make_parity(d, b, bytes, len),
-                Call::Recover { d, b, x, y } => archive::stripe_recover(d, b, x, y, bytes, len),
-                Call::MakeAll { d, s, b } => archive::probe_make_parity_all(d, s, b, bytes, len),
+                Call::Make { d, parities, b } => archive::stripe_make_parity(d, parities, b, bytes, len),
+                Call::Recover { d, parities, b, x, y } => archive::stripe_recover(d, parities, b, x, y, bytes, len),
+                Call::MakeAll { d, parities, s, b } => archive::probe_make_parity_all(d, parities, s, b, bytes, len),
             }
         }
     }
@@ -131,7 +133,7 @@ impl Call {
 }
 
 /// What tells two buffers apart, if anything does: the first byte that differs, by its place.
-fn difference(measures: (u32, u32, u32), found: &[u8], expected: &[u8]) -> Option<String> {
+fn difference(measures: [u32; 4], found: &[u8], expected: &[u8]) -> Option<String> {
     if found == expected {
         return None;
     }
@@ -143,14 +145,14 @@ fn difference(measures: (u32, u32, u32), found: &[u8], expected: &[u8]) -> Optio
 }
 
 /// The place of a byte as a failure names it: the member it belongs to and, where there are several, the stripe.
-fn place((d, s, b): (u32, u32, u32), at: u64) -> String {
+fn place([d, parities, s, b]: [u32; 4], at: u64) -> String {
     let (s, b) = (u64::from(s.max(1)), u64::from(b));
     let block = at.checked_div(b).unwrap_or(0);
     let (member, stripe, in_block) = (block / s, block % s, at - block * b);
     let name = match member.checked_sub(u64::from(d)) {
         None => format!("data {member}"),
         Some(0) => "P".into(),
-        Some(1) => "Q".into(),
+        Some(1) if parities == 2 => "Q".into(),
         Some(_) => format!("block {member}"),
     };
     match s {

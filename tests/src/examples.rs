@@ -35,9 +35,9 @@ pub fn group(_seed: u64) -> Outcome {
     product("K1", 2, 128, 29)?;
     fifteenth_power()?;
     product("K3", 2, 142, 1)?;
-    stripe("K4", Call::make(3, 1), &[1, 2, 3, JUNK, JUNK], &[1, 2, 3, 0, 9])?;
-    stripe("K5", Call::recover(3, 1, 0, 1), &[JUNK, JUNK, 3, 0, 9], &[1, 2, 3, 0, 9])?;
-    stripe("K6", Call::make(2, 1), &[128, 128, JUNK, JUNK], &[128, 128, 0, 157])?;
-    stripe("K7", Call::recover(2, 1, 0, 2), &[JUNK, 128, JUNK, 157], &[128, 128, 0, 157])?;
+    stripe("K4", Call::make(3, 2, 1), &[1, 2, 3, JUNK, JUNK], &[1, 2, 3, 0, 9])?;
+    stripe("K5", Call::recover(3, 2, 1, 0, 1), &[JUNK, JUNK, 3, 0, 9], &[1, 2, 3, 0, 9])?;
+    stripe("K6", Call::make(2, 2, 1), &[128, 128, JUNK, JUNK], &[128, 128, 0, 157])?;
+    stripe("K7", Call::recover(2, 2, 1, 0, 2), &[JUNK, 128, JUNK, 157], &[128, 128, 0, 157])?;
     Ok("K1 to K7".into())
 }

@@ -27,7 +27,7 @@ pub type Outcome = Result<String, String>;
 type Group = fn(u64) -> Outcome;
 
 /// The groups in the order in which they run.
-const GROUPS: [(&str, Group); 20] = [
+const GROUPS: [(&str, Group); 21] = [
     ("field", field::group),
     ("products", products::group),
     ("examples", examples::group),
@@ -41,6 +41,7 @@ const GROUPS: [(&str, Group); 20] = [
     ("rotating rows", shelf::rows::group),
     ("rotating rebuilds", shelf::rotation::group),
     ("rebuilds in turn", shelf::rebuilds::group),
+    ("one parity", shelf::single::group),
     ("sessions", shelf::sessions::group),
     ("tiny shelves", shelf::tiny::group),
     ("random shelves", shelf::random::group),

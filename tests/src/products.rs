@@ -24,7 +24,7 @@ fn row_in_q(factor: u8, products: &[u8]) -> Result<(), String> {
     after.extend(all_bytes().iter().map(|byte| byte * odd));
     after.extend(products);
     before.resize(after.len(), 0xa5);
-    Call::make(8, 256).expect(&before, 0, &after).map_err(|fault| format!("{factor} times 0 to 255 as Q: {fault}"))
+    Call::make(8, 2, 256).expect(&before, 0, &after).map_err(|fault| format!("{factor} times 0 to 255 as Q: {fault}"))
 }
 
 /// Fails unless Q has the tests' own product for every two elements.
@@ -56,14 +56,14 @@ fn published_in_q(tables: &Tables) -> Result<(), String> {
 fn product_in_q(a: u8, b: u8, product: u8) -> Result<(), String> {
     let mut stripe: Vec<u8> = (0..8).map(|bit| b * (a >> bit & 1)).collect();
     stripe.extend([b * (a.count_ones() % 2) as u8, product]);
-    Call::make(8, 1).expect(&[&stripe[..8], &[0xa5, 0x5a]].concat(), 0, &stripe)
+    Call::make(8, 2, 1).expect(&[&stripe[..8], &[0xa5, 0x5a]].concat(), 0, &stripe)
 }
 
 /// Fails unless Q is the weight where data i of sixteen is 1 and all other data is 0.
 fn weight_in_q(i: usize, weight: u8) -> Result<(), String> {
     let mut stripe = [0; 18];
     (stripe[i], stripe[16], stripe[17]) = (1, 1, weight);
-    Call::make(16, 1).expect(&[&stripe[..16], &[0xa5, 0x5a]].concat(), 0, &stripe)
+    Call::make(16, 2, 1).expect(&[&stripe[..16], &[0xa5, 0x5a]].concat(), 0, &stripe)
 }
 
 /// Fails unless recovery multiplies as the tests do, for each factor it uses and all 256 bytes. With Q 0 to 255 and
@@ -95,7 +95,7 @@ fn quotient(x: usize, y: usize, divisor: u8) -> Result<u8, String> {
         before[member * 256..][..256].fill(0xa5);
         after[member * 256..][..256].copy_from_slice(&products);
     }
-    Call::recover(16, 256, x, y).expect(&before, 0, &after).map_err(|fault| format!("Q times {factor}: {fault}"))?;
+    Call::recover(16, 2, 256, x, y).expect(&before, 0, &after).map_err(|fault| format!("Q times {factor}: {fault}"))?;
     Ok(factor)
 }
 

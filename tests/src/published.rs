@@ -16,11 +16,20 @@ pub struct Tables {
     pub rows: Vec<Row>,
 }
 
-/// A published stripe: d data blocks, P and Q, of b bytes each.
+/// A stripe: d data blocks and P, with two parities Q too, of b bytes each. A published one has two.
 pub struct Stripe {
     pub d: usize,
+    pub parities: usize,
     pub b: usize,
     pub bytes: Vec<u8>,
+}
+
+impl Stripe {
+    /// The same data with one parity: the stripe without Q.
+    pub fn without_q(&self) -> Stripe {
+        let Stripe { d, b, .. } = *self;
+        Stripe { d, parities: 1, b, bytes: self.bytes[..(d + 1) * b].to_vec() }
+    }
 }
 
 /// The lines of a file that are not comments.
@@ -80,7 +89,7 @@ fn stripe(line: &str) -> Result<Stripe, String> {
     if blocks.len() != d + 2 || blocks.iter().any(|block| block.len() != b) {
         return Err(format!("stripes.txt has a line of d {d}, b {b} without {} blocks of {b} bytes", d + 2));
     }
-    Ok(Stripe { d, b, bytes: blocks.concat() })
+    Ok(Stripe { d, parities: 2, b, bytes: blocks.concat() })
 }
 
 /// Reads stripes.txt, which has at least one stripe.

@@ -99,7 +99,7 @@ part-within n m bytes e h l = omega arith
 few-blocks : (g : Geometry) (a count : ℕ) → fits g ≡ true → 32768 < count * g .b → badAddress g a count ≡ true
 few-blocks g a count t h =
     let room : arrayLength g ≤ 32768 = rooms g t .0 in
-    let part : g .d * g .s * g .b ≤ (g .d + 2) * g .s * g .b = mul-le-mul-right (g .b) (mul-le-mul-right (g .s) (omega arith)) in
+    let part : g .d * g .s * g .b ≤ (g .d + g .parities) * g .s * g .b = mul-le-mul-right (g .b) (mul-le-mul-right (g .s) (omega arith)) in
     let more : g .d * g .s < a + count =
     elim (decLt (g .d * g .s) count) [
       | yes l ↦ omega arith

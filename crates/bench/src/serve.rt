@@ -85,7 +85,7 @@ fn open(
     }
 }
 
-// The geometry that a line of measures says, in the fixed layout; zeros, which no shelf has, where it can't be read.
+// The geometry that a line of measures says, in the fixed layout, with two parities; zeros, which no shelf has, where it can't be read.
 fn geometry_of(line: &[u8]) -> Geometry
     ensures { λ g. ⌜ g ≡ geometryOf (measuresLine (now (line .entry))) ⌝ }
 {
@@ -98,6 +98,7 @@ fn geometry_of(line: &[u8]) -> Geometry
             h,
             e,
             layout: 0,
+            parities: 2,
         },
         Measures::Unreadable => Geometry {
             d: 0,
@@ -107,6 +108,7 @@ fn geometry_of(line: &[u8]) -> Geometry
             h: 0,
             e: 0,
             layout: 0,
+            parities: 2,
         },
     }
 }

@@ -39,6 +39,7 @@ pub fn opened() -> Session
         h: 0,
         e: 0,
         layout: 0,
+        parities: 2,
     };
     Session {
         stage: Stage::MeasureNames,

@@ -14,51 +14,55 @@ pub extern "C" fn probe_mul(a: u32, b: u32) -> u32
     field::mul((a % 256) as u8, (b % 256) as u8) as u32
 }
 
-// Makes P and Q of every stripe of an array kept by member, of s stripes, and answers 0. Answers 1
-// where d is not 2 to 16, s not 1 to 65,536 or b not 1 to 4,096, else 2 where the array is not
-// (d + 2) × s blocks long, and stores nothing.
+// Makes the parities of every stripe of an array kept by member, of s stripes, and answers 0. Answers
+// 1 where d is not 2 to 16, parities not 1 or 2, s not 1 to 65,536 or b not 1 to 4,096, else 2 where
+// the array is not (d + parities) × s blocks long, and stores nothing.
 #[no_mangle]
-pub extern "C" fn probe_make_parity_all(d: u32, s: u32, b: u32, array: &mut [u8]) -> u32
-    ensures { λ r. ⌜ (r ≡ allCode d s b (length (now (array .entry)))) × (now (array .exit) ≡ allBuffer d s b (now (array .entry))) ⌝ }
+pub extern "C" fn probe_make_parity_all(
+    d: u32,
+    parities: u32,
+    s: u32,
+    b: u32,
+    array: &mut [u8],
+) -> u32
+    ensures { λ r. ⌜ (r ≡ allCode d parities s b (length (now (array .entry)))) × (now (array .exit) ≡ allBuffer d parities s b (now (array .entry))) ⌝ }
 {
-    let code = all_code(d, s, b, array.len());
+    let code = all_code(d, parities, s, b, array.len());
     if code == 0 {
-        stripe::parity::make_all_parity(array, 0, d as usize, s as usize, b as usize);
+        stripe::parity::make_all_parity(
+            array,
+            0,
+            d as usize,
+            parities as usize,
+            s as usize,
+            b as usize,
+        );
     }
     code
 }
 
 // What probe_make_parity_all answers for an array of n bytes.
-fn all_code(d: u32, s: u32, b: u32, n: usize) -> u32
-    ensures { λ r. ⌜ r ≡ allCode d s b n ⌝ }
+fn all_code(d: u32, parities: u32, s: u32, b: u32, n: usize) -> u32
+    ensures { λ r. ⌜ r ≡ allCode d parities s b n ⌝ }
 {
-    if bad_shape(d, s, b) {
+    if bad_shape(d, parities, s, b) {
         return 1;
     }
-    if n != (d as usize + 2) * s as usize * b as usize {
+    if n != (d as usize + parities as usize) * s as usize * b as usize {
         return 2;
     }
     0
 }
 
-// Whether d, s or b is out of its range.
-fn bad_shape(d: u32, s: u32, b: u32) -> bool
-    ensures { λ r. ⌜ r ≡ badShape d s b ⌝ }
+// Whether a measure is out of its range.
+fn bad_shape(d: u32, parities: u32, s: u32, b: u32) -> bool
+    ensures { λ r. ⌜ r ≡ badShape d parities s b ⌝ }
 {
-    if d < 2 {
-        return true;
-    }
-    if 16 < d {
+    if stripe::bad_measures(d, parities, b) {
         return true;
     }
     if s < 1 {
         return true;
     }
-    if 65536 < s {
-        return true;
-    }
-    if b < 1 {
-        return true;
-    }
-    4096 < b
+    65536 < s
 }

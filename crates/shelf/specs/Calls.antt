@@ -1,15 +1,15 @@
--- What each call does to a shelf, where no row of `Status.antt` or `Lent.antt` refuses it. Tables run over stripes below s and data indices below d;
--- what they hold beyond is of no account. The stripe that a resync makes is `resyncStripe`; which stripe it tells and the buffers that read and
--- fetch fill stand in `Lent.antt`.
+-- What each call does to a shelf, where no row of `Status.antt` or `Lent.antt` refuses it. Tables run over stripes below s, data indices below
+-- d and parity numbers below the number of parities; what they hold beyond is of no account. The stripe that a resync makes is `resyncStripe`; which
+-- stripe it tells and the buffers that read and fetch fill stand in `Lent.antt`.
 -- Assumes nothing.
-use mathlib.Core.Bool.{Bool, true, false, not, _&&_, _||_}
+use mathlib.Core.Bool.{Bool, true, false, not, _&&_}
 use mathlib.Core.List.{List}
 use mathlib.Core.Option.{Option, none, some}
 use Prim.Native.Nat.{ℕ, zero, suc, _+_, _-_}
 use lib.Dec.{eqb, ltb, leb}
 use Rattle.stripe.specs.Blocks.{block}
 use Rattle.shelf.specs.Counting.{choose, count, any, setAt}
-use Rattle.shelf.specs.Members.{arrayMembers, logMember, roleP, roleQ, memberAt, addressOf, blockP, blockQ, workedBack}
+use Rattle.shelf.specs.Members.{arrayMembers, logMember, parityRole, memberAt, addressOf, blockParity, workedBack}
 use Rattle.shelf.specs.State.{Log, State, isSome, listed, marksIn, lowestStale}
 use Rattle.shelf.specs.Status.{Call, start, fail, write, read, fetch, resync, rebuild, newLog, fullResync, codeOf}
 use Rattle.shelf.specs.declared.record.Geometry.{Geometry}
@@ -17,10 +17,10 @@ use Rattle.shelf.specs.declared.record.Geometry.{Geometry}
 -- ---- parts that several calls share
 
 abbrev pub inMode : State → ℕ → State
-inMode s m = record { disk = s .disk; p = s .p; q = s .q; log = s .log; mode = m; failed = s .failed }
+inMode s m = record { disk = s .disk; parity = s .parity; log = s .log; mode = m; failed = s .failed }
 
 abbrev pub withFlags : State → (ℕ → Bool) → State
-withFlags s f = record { disk = s .disk; p = s .p; q = s .q; log = s .log; mode = s .mode; failed = f }
+withFlags s f = record { disk = s .disk; parity = s .parity; log = s .log; mode = s .mode; failed = f }
 
 -- the next free record and the mode, with so many blocks left listed
 abbrev pub nextLeft : ℕ → ℕ → ℕ
@@ -38,8 +38,7 @@ unfoldable pub settled : Geometry → State → State
 settled g s =
     record {
       disk = s .disk;
-      p = s .p;
-      q = s .q;
+      parity = s .parity;
       log = withNext (s .log) (nextLeft (marksIn g (listed (s .log))) (s .log .next));
       mode = modeLeft (marksIn g (listed (s .log))) (s .mode);
       failed = s .failed;
@@ -50,19 +49,18 @@ abbrev pub dropped : Log → (ℕ → Bool) → Log
 dropped n t =
     record { value = n .value; next = n .next; ori = λ x i. choose (t x) none (n .ori x i); cur = λ x i. choose (t x) none (n .cur x i) }
 
--- P and Q made afresh in the stripes that pass the test, of these data blocks, and their listed blocks dropped; the rest as it was
+-- Parity made afresh in the stripes that pass the test, of these data blocks, and their listed blocks dropped; the rest as it was
 abbrev pub afresh : Geometry → State → (ℕ → Bool) → (ℕ → ℕ → List ℕ) → State
 afresh g s t disk =
     record {
       disk = disk;
-      p = λ x. choose (t x) (blockP g (disk x)) (s .p x);
-      q = λ x. choose (t x) (blockQ g (disk x)) (s .q x);
+      parity = λ x p. choose (t x) (blockParity g p (disk x)) (s .parity x p);
       log = dropped (s .log) t;
       mode = s .mode;
       failed = s .failed;
     }
 
--- Stripe t with these data blocks: P and Q are made afresh, its listed blocks are dropped, and the rest is settled.
+-- Stripe t with these data blocks: parity is made afresh, its listed blocks are dropped, and the rest is settled.
 unfoldable pub made : Geometry → State → ℕ → (ℕ → List ℕ) → State
 made g s t row = settled g (afresh g s (λ x. eqb x t) (setAt t row (s .disk)))
 
@@ -70,10 +68,10 @@ made g s t row = settled g (afresh g s (λ x. eqb x t) (setAt t row (s .disk)))
 abbrev pub emptied : Log → Log
 emptied n = record { value = n .value; next = 0; ori = λ _ _. none; cur = λ _ _. none }
 
--- All stripes with these data blocks and failed members: P and Q are made afresh, the whole list is dropped, and the mode is 0.
+-- All stripes with these data blocks and failed members: parity is made afresh, the whole list is dropped, and the mode is 0.
 unfoldable pub remade : Geometry → State → (ℕ → ℕ → List ℕ) → (ℕ → Bool) → State
 remade g s disk f =
-    record { disk = disk; p = λ x. blockP g (disk x); q = λ x. blockQ g (disk x); log = emptied (s .log); mode = 0; failed = f }
+    record { disk = disk; parity = λ x p. blockParity g p (disk x); log = emptied (s .log); mode = 0; failed = f }
 
 -- ---- write, one stripe: w tells which data indices are written, m which are listed
 
@@ -143,8 +141,7 @@ unfoldable pub logged : Geometry → State → ℕ → (ℕ → Bool) → (ℕ �
 logged g s t w v =
     record {
       disk = setAt t (overwritten w v (s .disk t)) (s .disk);
-      p = s .p;
-      q = s .q;
+      parity = s .parity;
       log =
           record {
             value = curAppended g s t w v .value;
@@ -156,7 +153,7 @@ logged g s t w v =
       failed = s .failed;
     }
 
--- A stripe is logged where it can be; else the disks get the new blocks, P and Q are made afresh, and the stripe's listed blocks are dropped.
+-- A stripe is logged where it can be; else the disks get the new blocks, parity is made afresh, and the stripe's listed blocks are dropped.
 unfoldable pub writeStripe : Geometry → State → ℕ → (ℕ → Bool) → (ℕ → List ℕ) → State
 writeStripe g s t w v = choose (logs g s t w) (logged g s t w v) (made g s t (overwritten w v (s .disk t)))
 
@@ -186,7 +183,7 @@ orElse (some r) f z = f r
 -- and what stands in `original` for it is not looked at.
 abbrev pub original : Geometry → State → ℕ → ℕ → List ℕ
 original g s x i =
-    choose (ltb i (g .d)) (orElse (s .log .ori x i) (s .log .value) (s .disk x i)) (choose (eqb i (roleP g)) (s .p x) (s .q x))
+    choose (ltb i (g .d)) (orElse (s .log .ori x i) (s .log .value) (s .disk x i)) (s .parity x (i - g .d))
 
 abbrev pub missing : Geometry → State → ℕ → ℕ → Bool
 missing g s x i = choose (ltb i (g .d) && listed (s .log) x i) (not (isSome (s .log .ori x i))) (s .failed (memberAt g x i))
@@ -205,22 +202,22 @@ blockAt g s x i =
 abbrev pub resyncStripe : Geometry → State → ℕ
 resyncStripe g s = lowestStale g (listed (s .log))
 
--- Mode 2; P and Q of the lowest stale stripe are made and its listed blocks dropped. If none is stale, nothing is stored and the mode is 0.
+-- Mode 2; the parities of the lowest stale stripe are made and its listed blocks dropped. If none is stale, nothing is stored and the mode is 0.
 unfoldable pub resynced : Geometry → State → State
 resynced g s =
     let t = resyncStripe g s in choose (ltb t (g .s)) (made g (inMode s 2) t (s .disk t)) (inMode s 0)
 
 -- ---- rebuild
 
--- P or Q of stripe x is on a failed member
+-- a parity of stripe x is on a failed member
 abbrev pub parityFailed : Geometry → (ℕ → Bool) → ℕ → Bool
-parityFailed g f x = f (memberAt g x (roleP g)) || f (memberAt g x (roleQ g))
+parityFailed g f x = any (g .parities) (λ p. f (memberAt g x (parityRole g p)))
 
 abbrev pub arrayCleared : Geometry → (ℕ → Bool) → ℕ → Bool
 arrayCleared g f i = choose (ltb i (arrayMembers g)) false (f i)
 
--- Every data block on a failed member is filled with what fetch would give; one on a sound member is read as it is. In the stripes whose P or Q was
--- on a failed member, and only there, both are made afresh and the listed blocks are dropped. All array flags clear, and the rest is settled: mode 2
+-- Every data block on a failed member is filled with what fetch would give; one on a sound member is read as it is. In the stripes that had a
+-- parity on a failed member, and only there, all parities are made afresh and the listed blocks are dropped. All array flags clear, and the rest is settled: mode 2
 -- becomes 0 where the list ends empty, and mode 1 remains mode 1, with or without listed blocks before and after.
 unfoldable pub rebuilt : Geometry → State → State
 rebuilt g s = settled g (withFlags (afresh g s (parityFailed g (s .failed)) (blockAt g s)) (arrayCleared g (s .failed)))

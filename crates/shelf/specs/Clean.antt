@@ -5,17 +5,17 @@ use mathlib.Core.Bool.{false}
 use mathlib.Core.Path.{_≡_}
 use Prim.Native.Nat.{ℕ, _<_}
 use lib.ListN.{length}
-use Rattle.shelf.specs.Members.{roleP, roleQ, memberAt, IsBlock, blockP, blockQ}
+use Rattle.shelf.specs.Members.{parityRole, memberAt, IsBlock, blockParity}
 use Rattle.shelf.specs.Book.{Book, noMarks}
 use Rattle.shelf.specs.Lent.{Lent, flagAt, arrayBlock, badMeasures, badRecord, badLengths, noneList}
 use Rattle.shelf.specs.declared.record.Geometry.{Geometry}
 
--- the parity that stripe x has in the array, where its member is sound, is that of the blocks that the book holds
+-- each parity that stripe x has in the array, where its member is sound, is that of the blocks that the book holds
 pub record Parity (g : Geometry) (h : Lent) (b : Book) (x : ℕ) : Type 0 where
-  pub p : flagAt (h .shelf) (memberAt g x (roleP g)) ≡ false → arrayBlock g (h .array) x (roleP g) ≡ blockP g (b .held x)
-  pub q : flagAt (h .shelf) (memberAt g x (roleQ g)) ≡ false → arrayBlock g (h .array) x (roleQ g) ≡ blockQ g (b .held x)
+  pub each : (p : ℕ) → p < g .parities → flagAt (h .shelf) (memberAt g x (parityRole g p)) ≡ false
+      → arrayBlock g (h .array) x (parityRole g p) ≡ blockParity g p (b .held x)
 
--- "Shelves in mode 0 carry over after their list is filled with none." Up to two members may have failed, as number 1 allows; their bytes may be
+-- "Shelves in mode 0 carry over after their list is filled with none." As many members may have failed as number 1 allows; their bytes may be
 -- anything, and so may those of a sound log. Of a block on a failed member the book holds what the sound parity was made of.
 pub record Clean (g : Geometry) (h : Lent) (b : Book) : Type 0 where
   -- a shelf of these measures, with its nineteen flags, to which numbers 1 and 2 do not apply

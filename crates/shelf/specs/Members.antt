@@ -1,5 +1,5 @@
 -- The members of a shelf, its block addresses and its blocks. The letters are those of the geometry: d data blocks a stripe, s stripes, blocks of b
--- bytes, a log of l records, a list of h hash slots and e places; and the layout, 0 fixed or 1 rotating.
+-- bytes, a log of l records, a list of h hash slots and e places; the layout, 0 fixed or 1 rotating; and the number of parities, 1 or 2.
 -- Assumes nothing.
 use mathlib.Core.Bool.{Bool, not, _&&_}
 use mathlib.Core.List.{List}
@@ -8,7 +8,7 @@ use Prim.Native.Nat.{ℕ, _+_, _*_, _/_, _%_, _≤_}
 use lib.Dec.{eqb, ltb}
 use lib.ListN.{length, getD}
 use Rattle.stripe.specs.Blocks.{gen}
-use Rattle.stripe.specs.Parity.{parityP, parityQ, solved}
+use Rattle.stripe.specs.Parity.{parityOf, solved}
 use Rattle.stripe.specs.Places.{memberOf, place}
 use Rattle.stripe.specs.Sound.{AreBytes}
 use Rattle.shelf.specs.Counting.{choose, first}
@@ -29,31 +29,34 @@ pub record InRange (g : Geometry) : Type 0 where
   pub e-least : 1 ≤ g .e
   pub e-most : g .e ≤ 4096
   pub layout-most : g .layout ≤ 1
+  pub parities-least : 1 ≤ g .parities
+  pub parities-most : g .parities ≤ 2
 
--- Members are numbered from 0: those of the array, then the log. In the fixed layout the array's are the data disks, then P and Q; in the rotating
+-- what is asked of the measures where only the number of members matters
+abbrev pub Sized : Geometry → Type 0
+Sized g = (g .d ≤ 16) × ((1 ≤ g .parities) × (g .parities ≤ 2))
+
+-- Members are numbered from 0: those of the array, then the log. In the fixed layout the array's are the data disks, then the parities; in the rotating
 -- one each of them has another role from stripe to stripe.
 abbrev pub arrayMembers : Geometry → ℕ
-arrayMembers g = g .d + 2
+arrayMembers g = g .d + g .parities
 
 abbrev pub logMember : Geometry → ℕ
-logMember g = g .d + 2
+logMember g = g .d + g .parities
 
 abbrev pub allMembers : Geometry → ℕ
-allMembers g = g .d + 3
+allMembers g = g .d + g .parities + 1
 
--- a stripe's roles: data index 0 to d - 1, then P and Q
-abbrev pub roleP : Geometry → ℕ
-roleP g = g .d
-
-abbrev pub roleQ : Geometry → ℕ
-roleQ g = g .d + 1
+-- a stripe's roles: data index 0 to d - 1, then its parities: P is number 0, Q, where there are two, number 1
+abbrev pub parityRole : Geometry → ℕ → ℕ
+parityRole g p = g .d + p
 
 -- the member that has role i in stripe x, by the layout; and the number of its block in the array
 abbrev pub memberAt : Geometry → ℕ → ℕ → ℕ
-memberAt g x i = memberOf (g .layout) (g .d) x i
+memberAt g x i = memberOf (g .layout) (g .d) (g .parities) x i
 
 abbrev pub placeAt : Geometry → ℕ → ℕ → ℕ
-placeAt g x i = place (g .layout) (g .d) (g .s) x i
+placeAt g x i = place (g .layout) (g .d) (g .parities) (g .s) x i
 
 -- Block addresses run below d * s. Address a sits in stripe a / d, rounded down, at data index a mod d; and data index i of stripe x has address
 -- x * d + i.
@@ -85,18 +88,16 @@ blank g = gen (g .b) (λ _. 0)
 abbrev pub column : (ℕ → List ℕ) → ℕ → ℕ → ℕ
 column row j i = getD (row i) j 0
 
--- P and Q of a row of data blocks, byte by byte
-unfoldable pub blockP : Geometry → (ℕ → List ℕ) → List ℕ
-blockP g row = gen (g .b) (λ j. parityP (g .d) (column row j))
+-- parity number p of a row of data blocks, byte by byte
+unfoldable pub blockParity : Geometry → ℕ → (ℕ → List ℕ) → List ℕ
+blockParity g p row = gen (g .b) (λ j. parityOf p (g .d) (column row j))
 
-unfoldable pub blockQ : Geometry → (ℕ → List ℕ) → List ℕ
-blockQ g row = gen (g .b) (λ j. parityQ (g .d) (column row j))
-
--- the other missing role beside i: the lowest one, or i itself where no other is missing
+-- The other missing role beside i: the lowest one, or i itself where no other is missing. With one parity it is i: where a fetch or a rebuild is
+-- accepted and i is worked back, no other is missing.
 unfoldable pub otherMissing : Geometry → (ℕ → Bool) → ℕ → ℕ
 otherMissing g missing i =
-    let y = first (arrayMembers g) (λ n. missing n && not (eqb n i)) in choose (ltb y (arrayMembers g)) y i
+    let y = first (arrayMembers g) (λ n. missing n && not (eqb n i)) in choose (ltb 1 (g .parities) && ltb y (arrayMembers g)) y i
 
--- data block i of a row of d + 2 blocks, worked back from those that are not missing; at most one other is
+-- data block i of a row of d + parities blocks, worked back from those that are not missing; i is, and with it no more than there are parities
 unfoldable pub workedBack : Geometry → (ℕ → Bool) → (ℕ → List ℕ) → ℕ → List ℕ
 workedBack g missing row i = gen (g .b) (λ j. solved (g .d) i (otherMissing g missing i) (column row j))

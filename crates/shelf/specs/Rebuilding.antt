@@ -20,7 +20,7 @@ use Rattle.shelf.specs.Records.{failedRole, withListed, withCleared}
 use Rattle.shelf.specs.Reading.{Ready, latest, servedBlock}
 use Rattle.shelf.specs.declared.record.Shelf.{Shelf}
 
--- ---- of one stripe: P or Q is on a failed member; a data block is; row 14 applies to a data block
+-- ---- of one stripe: a parity is on a failed member; a data block is; row 14 applies to a data block
 
 abbrev pub parityFailedAt : Shelf → ℕ → Bool
 parityFailedAt r x = parityFailed (r .geometry) (flagAt r) x
@@ -33,10 +33,10 @@ withheldAt r l x = any (r .geometry .d) (λ i. withheld (r .geometry) (flagAt r)
 
 -- ---- what the functions ask
 
--- what a fetch's functions ask of what is lent, and no more than two failed members of the array
+-- what a fetch's functions ask of what is lent, and no more failed members of the array than there are parities
 pub record Rebuildable (h : Lent) : Type 0 where
   pub ready : Ready h
-  pub two : count (arrayMembers (h .shelf .geometry)) (flagAt (h .shelf)) ≤ 2
+  pub few : count (arrayMembers (h .shelf .geometry)) (flagAt (h .shelf)) ≤ h .shelf .geometry .parities
 
 -- the block of data index i of stripe x is on a failed member and not in the log
 abbrev pub Lost : Shelf → List ℕ → ℕ → ℕ → Type 0
@@ -66,11 +66,12 @@ unfoldable pub filledTo : Lent → ℕ → ℕ → List ℕ
 filledTo h x zero = h .array
 filledTo h x (suc c) = filledAt (withArray h (filledTo h x c)) x c
 
--- stripe x rebuilt: its data blocks filled, then P and Q made of them where one of these was on a failed member
+-- stripe x rebuilt: its data blocks filled, then the parities made of them where one of these was on a failed member
 unfoldable pub stripeRebuilt : Lent → ℕ → List ℕ
 stripeRebuilt h x =
-    let a = filledTo h x (h .shelf .geometry .d) in
-    choose (parityFailedAt (h .shelf) x) (parityMade (placeAt (h .shelf .geometry) x) (h .shelf .geometry .d) (h .shelf .geometry .b) a) a
+    let g = h .shelf .geometry in
+    let a = filledTo h x (g .d) in
+    choose (parityFailedAt (h .shelf) x) (parityMade (placeAt g x) (g .d) (g .parities) (g .b) a) a
 
 -- the first n stripes rebuilt, in rising order
 unfoldable pub rebuiltTo : Lent → ℕ → List ℕ

@@ -20,10 +20,9 @@ pub record Log : Type 0 where
   pub cur : ℕ → ℕ → Option ℕ
 
 pub record State : Type 0 where
-  -- the block that the disk of a stripe's data index holds, and the stripe's P and Q
+  -- the block that the disk of a stripe's data index holds, and the stripe's parities by number: 0 is P, 1 is Q
   pub disk : ℕ → ℕ → List ℕ
-  pub p : ℕ → List ℕ
-  pub q : ℕ → List ℕ
+  pub parity : ℕ → ℕ → List ℕ
   pub log : Log
   -- 0 normal, 1 accelerating, 2 transitional
   pub mode : ℕ
@@ -63,8 +62,7 @@ unfoldable pub freshState : Geometry → State
 freshState g =
     record {
       disk = λ _ _. blank g;
-      p = λ _. blank g;
-      q = λ _. blank g;
+      parity = λ _ _. blank g;
       log = record { value = λ _. blank g; next = 0; ori = λ _ _. none; cur = λ _ _. none };
       mode = 0;
       failed = λ _. false;

@@ -36,7 +36,7 @@ badAddress g a n = eqb n 0 || ltb (addresses g) (a + n)
 abbrev pub badData : Geometry → ℕ → ℕ → Bool
 badData g n len = not (eqb len (n * g .b))
 
--- 6: the member is above d + 2
+-- 6: the member's number is above the log's
 abbrev pub badMember : Geometry → ℕ → Bool
 badMember g j = ltb (logMember g) j
 
@@ -59,9 +59,9 @@ logFailed g f = f (logMember g)
 abbrev pub alreadyFailed : (ℕ → Bool) → ℕ → Bool
 alreadyFailed f j = f j
 
--- 11: two have failed already
-abbrev pub twoFailed : Geometry → (ℕ → Bool) → Bool
-twoFailed g f = leb 2 (count (allMembers g) f)
+-- 11: as many have failed already as there are parities
+abbrev pub limitReached : Geometry → (ℕ → Bool) → Bool
+limitReached g f = leb (g .parities) (count (allMembers g) f)
 
 -- 12: no array member failed (rebuild), or the log is sound (new log)
 abbrev pub arraySound : Geometry → (ℕ → Bool) → Bool
@@ -75,7 +75,7 @@ abbrev pub someListed : Geometry → (ℕ → ℕ → Bool) → Bool
 someListed g m = ltb 0 (marksIn g m)
 
 -- 14: the log failed and a wanted block is on a failed disk in a stale stripe. For a fetch these are the blocks asked for, for a rebuild all data
--- blocks; P and Q blocks never count.
+-- blocks; parity blocks never count.
 abbrev pub withheld : Geometry → (ℕ → Bool) → (ℕ → ℕ → Bool) → ℕ → ℕ → Bool
 withheld g f m x i = logFailed g f && (f (memberAt g x i) && stale g m x)
 
@@ -101,7 +101,7 @@ blockRows g a n len rest = row 4 (badAddress g a n) (row 5 (badData g n len) res
 
 unfoldable pub codeOf : Geometry → (ℕ → Bool) → ℕ → (ℕ → ℕ → Bool) → Call → ℕ
 codeOf g f mode m start = row 7 (notNormal mode) (row 8 (arrayFailed g f) (row 9 (logFailed g f) 0))
-codeOf g f mode m (fail j) = row 6 (badMember g j) (row 10 (alreadyFailed f j) (row 11 (twoFailed g f) 0))
+codeOf g f mode m (fail j) = row 6 (badMember g j) (row 10 (alreadyFailed f j) (row 11 (limitReached g f) 0))
 codeOf g f mode m (write a n v) = blockRows g a n (length v) (row 8 (arrayFailed g f) 0)
 codeOf g f mode m (read a n len) = blockRows g a n len (row 16 (readFailed g f a n) 0)
 codeOf g f mode m (fetch a n len) = blockRows g a n len (row 14 (fetchWithheld g f m a n) 0)

@@ -4,6 +4,7 @@ use super::words;
 ghost use mathlib.Core.Path.{_≡_};
 ghost use Prim.Native.Nat.{_+_, _*_, _≤_, _<_};
 ghost use lib.ListN.{length, set, take};
+ghost use Rattle.shelf.specs.Members.{Sized};
 ghost use Rattle.shelf.specs.Words.{words};
 ghost use Rattle.shelf.specs.HashList.{Measures, entry, entryIn, putFront, encode};
 ghost use Rattle.shelf.specs.Rebuilding.{parityFailedAt};
@@ -62,10 +63,10 @@ pub fn close_up(l: &mut [u8], g: record::Geometry, k: usize, n: usize) -> usize
     m
 }
 
-// Closes the entries of the first n places up over those of the stripes whose P or Q is on a failed member. Answers how many are left,
+// Closes the entries of the first n places up over those of the stripes with a parity on a failed member. Answers how many are left,
 // in the places from 0 on. The words behind the n places are left.
 pub fn close_up_lost(l: &mut [u8], shelf: record::Shelf, n: usize) -> usize
-    requires { ⌜ Measures (shelf .geometry) (now l) × (n ≤ shelf .geometry .e) ⌝ }
+    requires { ⌜ Measures (shelf .geometry) (now l) × ((n ≤ shelf .geometry .e) × Sized (shelf .geometry)) ⌝ }
     ensures { λ r. ⌜ (r ≤ n) × ((take r (placed (shelf .geometry .e) (words (now (l .exit))) (shelf .geometry .h) 0) ≡ dropStripes (shelf .geometry .d) (parityFailedAt shelf) (take n (placed (shelf .geometry .e) (words (now (l .entry))) (shelf .geometry .h) 0))) × KeptFrom (shelf .geometry .h + 4 * n) (words (now (l .entry))) (words (now (l .exit)))) ⌝ }
 {
     let g = shelf.geometry;

@@ -10,7 +10,8 @@ ghost use lib.ListN.{length};
 ghost use Rattle.stripe.specs.Blocks.{put};
 ghost use Rattle.stripe.specs.Places.{Tabled};
 ghost use Rattle.stripe.specs.Steps.{Products};
-ghost use Rattle.shelf.specs.Members.{otherMissing};
+ghost use Rattle.stripe.specs.Parity.{Recoverable};
+ghost use Rattle.shelf.specs.Members.{arrayMembers, otherMissing};
 ghost use Rattle.shelf.specs.Lent.{lent, stateOf, fetchBuffer};
 ghost use Rattle.shelf.specs.Records.{failedRole};
 ghost use Rattle.shelf.specs.Reading.{ListReady, Ready, originalPlace, missingBy, solvedBlock, lostBlock, servedBlock};
@@ -101,7 +102,7 @@ fn put_block(
     ensures { λ _. ⌜ (now (out .exit) ≡ put (shelf .geometry .b) j (servedBlock (lent shelf (now (array .entry)) (now (log .entry)) (now (list .entry))) x i) (now (out .entry))) × Products (now (products .exit)) ⌝ }
 {
     let g = shelf.geometry;
-    let m = stripe::places::member(g.layout, g.d, x, i);
+    let m = stripe::places::member(g.layout, g.d, g.parities, x, i);
     if !shelf.has_failed(m) {
         read::put_stored(g, m, x, out, j, array);
         return;
@@ -165,7 +166,7 @@ pub fn solve_originals(
     work: &mut [u8],
     products: &mut [u8],
 )
-    requires { ⌜ Ready (lent shelf (now array) (now log) (now list)) × ((x < shelf .geometry .s) × ((i < shelf .geometry .d) × ((length (now work) ≡ shelf .geometry .b) × Products (now products)))) ⌝ }
+    requires { ⌜ Ready (lent shelf (now array) (now log) (now list)) × ((x < shelf .geometry .s) × ((i < shelf .geometry .d) × (Recoverable (shelf .geometry .parities) i y × ((length (now work) ≡ shelf .geometry .b) × Products (now products))))) ⌝ }
     ensures { λ _. ⌜ (now (work .exit) ≡ solvedBlock (lent shelf (now (array .entry)) (now (log .entry)) (now (list .entry))) x i y) × Products (now (products .exit)) ⌝ }
 {
     let g = shelf.geometry;
@@ -187,11 +188,11 @@ pub fn solve_originals(
 // A table of the block numbers of the originals of stripe x: a log record's where a block has an Ori, else the array's.
 fn original_numbers(shelf: record::Shelf, list: &[u8], x: usize) -> [usize; 18]
     requires { ⌜ ListReady shelf (now list) × (x < shelf .geometry .s) ⌝ }
-    ensures { λ r. ⌜ Tabled (shelf .geometry .d + 2) (originalPlace (shelf .geometry) (now (list .entry)) x) r ⌝ }
+    ensures { λ r. ⌜ Tabled (arrayMembers (shelf .geometry)) (originalPlace (shelf .geometry) (now (list .entry)) x) r ⌝ }
 {
     let g = shelf.geometry;
     let log = g.array_members() * g.s;
-    let mut ns = stripe::places::block_numbers(g.layout, g.d, g.s, x);
+    let mut ns = stripe::places::block_numbers(g.layout, g.d, g.parities, g.s, x);
     let mut i: usize = 0;
     while i < g.d {
         let r = list::ori(list, g, x * g.d + i);
@@ -203,12 +204,15 @@ fn original_numbers(shelf: record::Shelf, list: &[u8], x: usize) -> [usize; 18]
     ns
 }
 
-// The lowest missing role of stripe x beside i, or i where no other is missing.
+// The lowest missing role of stripe x beside i, or i where no other is missing or there is one parity.
 pub fn other_missing(shelf: record::Shelf, list: &[u8], x: usize, i: usize) -> usize
     requires { ⌜ ListReady shelf (now list) × ((x < shelf .geometry .s) × (i < shelf .geometry .d)) ⌝ }
     ensures { λ r. ⌜ r ≡ otherMissing (shelf .geometry) (missingBy shelf (now (list .entry)) x) i ⌝ }
 {
     let g = shelf.geometry;
+    if g.parities == 1 {
+        return i;
+    }
     let roles = g.array_members();
     let lost = shelf.failed_roles(x);
     let mut n: usize = 0;
@@ -226,7 +230,7 @@ pub fn other_missing(shelf: record::Shelf, list: &[u8], x: usize, i: usize) -> u
 // Whether the original of role i in stripe x is missing: a listed block's that lacks Ori, another's where it is lost, that is on a failed
 // member.
 fn is_missing(shelf: record::Shelf, list: &[u8], x: usize, i: usize, lost: bool) -> bool
-    requires { ⌜ ListReady shelf (now list) × ((x < shelf .geometry .s) × ((i < shelf .geometry .d + 2) × (lost ≡ failedRole shelf x i))) ⌝ }
+    requires { ⌜ ListReady shelf (now list) × ((x < shelf .geometry .s) × ((i < arrayMembers (shelf .geometry)) × (lost ≡ failedRole shelf x i))) ⌝ }
     ensures { λ r. ⌜ r ≡ missingBy shelf (now (list .entry)) x i ⌝ }
 {
     let g = shelf.geometry;

@@ -1,4 +1,4 @@
-// A record shelf: a RAID-6 array whose parity is put off through a log and a list. The caller lends the record, the array, the log and
+// A record shelf: an array with two parities, as in RAID-6, or one, whose parity is put off through a log and a list. The caller lends the record, the array, the log and
 // the list to each call; nothing is kept between calls.
 //
 // Here stand the calls for C. Below them: `record` has the shelf record and its methods, `status` decides the number by which a call is
@@ -218,7 +218,7 @@ pub extern "C" fn shelf_new_log(
     }
 }
 
-// Goes to mode 2, makes P and Q of the lowest stale stripe, drops its entries, and tells the stripe. Where none is stale it stores
+// Goes to mode 2, makes the parities of the lowest stale stripe, drops its entries, and tells the stripe. Where none is stale it stores
 // nothing, goes to mode 0 and tells s. Answers 0; or the first of 1, 2, 3, 7, 8 that applies, and then stores nothing and tells s.
 #[no_mangle]
 pub extern "C" fn shelf_resync(
@@ -256,8 +256,8 @@ pub extern "C" fn shelf_resync(
     }
 }
 
-// Fills every data block on a failed member with what a fetch gives and clears the array's flags. In the stripes whose P or Q was on a
-// failed member both are made afresh and the listed blocks are dropped; if no block is left listed, all log records are free and mode 2
+// Fills every data block on a failed member with what a fetch gives and clears the array's flags. In the stripes with a parity on a
+// failed member all parities are made afresh and the listed blocks are dropped; if no block is left listed, all log records are free and mode 2
 // ends. Mode 1 remains. Answers 0; or the first of 1, 2, 3, 12, 14 that applies, and then stores nothing.
 #[no_mangle]
 pub extern "C" fn shelf_rebuild(
@@ -279,7 +279,7 @@ pub extern "C" fn shelf_rebuild(
     }
 }
 
-// Makes P and Q of every stripe, empties the list and goes to mode 0. Answers 0; or the first of 1, 2, 8 that applies, and then stores
+// Makes the parities of every stripe, empties the list and goes to mode 0. Answers 0; or the first of 1, 2, 8 that applies, and then stores
 // nothing.
 #[no_mangle]
 pub extern "C" fn shelf_full_resync(
@@ -295,7 +295,7 @@ pub extern "C" fn shelf_full_resync(
     if code != 0 {
         return Answer { code, shelf };
     }
-    stripe::parity::make_all_parity(array, g.layout, g.d, g.s, g.b);
+    stripe::parity::make_all_parity(array, g.layout, g.d, g.parities, g.s, g.b);
     fill(list, 255);
     let entered = shelf.in_mode(0);
     Answer {

@@ -1,4 +1,4 @@
-// A rebuild: every data block on a failed member is filled with what a fetch gives, stripe after stripe, and P and Q are made afresh in the
+// A rebuild: every data block on a failed member is filled with what a fetch gives, stripe after stripe, and parity is made afresh in the
 // stripes in which one of them was on a failed member.
 use super::alter;
 use super::fetch;
@@ -7,10 +7,11 @@ use super::record;
 use super::words;
 ghost use mathlib.Core.Bool.{true};
 ghost use mathlib.Core.Path.{_≡_};
-ghost use Prim.Native.Nat.{_<_, _≤_};
+ghost use Prim.Native.Nat.{_<_};
 ghost use lib.ListN.{length};
 ghost use Rattle.stripe.specs.Steps.{Products};
 ghost use Rattle.shelf.specs.HashList.{Measures, Lists};
+ghost use Rattle.shelf.specs.Members.{Sized};
 ghost use Rattle.shelf.specs.Words.{words};
 ghost use Rattle.shelf.specs.Lent.{lent};
 ghost use Rattle.shelf.specs.Records.{failedRole};
@@ -49,7 +50,7 @@ fn rebuild_stripes(
     }
 }
 
-// Rebuilds stripe x: fills its data blocks, then makes P and Q of them where one of these was on a failed member.
+// Rebuilds stripe x: fills its data blocks, then makes the parities of them where one of these was on a failed member.
 fn rebuild_stripe(
     shelf: record::Shelf,
     x: usize,
@@ -65,7 +66,7 @@ fn rebuild_stripe(
     let g = shelf.geometry;
     fill_stripe(shelf, x, array, log, list, work, products);
     if shelf.parity_failed(x) {
-        stripe::parity::make_parity(array, g.layout, g.d, g.s, x, g.b);
+        stripe::parity::make_parity(array, g.layout, g.d, g.parities, g.s, x, g.b);
     }
 }
 
@@ -108,7 +109,7 @@ fn fill_block(
     ensures { λ _. ⌜ (now (array .exit) ≡ filledAt (lent shelf (now (array .entry)) (now (log .entry)) (now (list .entry))) x i) × Products (now (products .exit)) ⌝ }
 {
     let g = shelf.geometry;
-    let k = stripe::places::block_number(g.layout, g.d, g.s, x, i);
+    let k = stripe::places::block_number(g.layout, g.d, g.parities, g.s, x, i);
     let r = list::latest(list, g, x * g.d + i);
     if r != words::NONE {
         stripe::blocks::copy_block(log, r, array, k, g.b);
@@ -148,10 +149,10 @@ fn still_missing(i: usize, y: usize) -> usize
     y
 }
 
-// The record after a rebuild, and the list: the array's flags clear, and the entries of the stripes whose P or Q was on a failed member
+// The record after a rebuild, and the list: the array's flags clear, and the entries of the stripes with a parity on a failed member
 // are dropped.
 pub fn settle(shelf: record::Shelf, list: &mut [u8]) -> record::Shelf
-    requires { ⌜ (shelf .geometry .d ≤ 16) × (Measures (shelf .geometry) (now list) × Lists (words (now list)) (shelf .geometry) (shelf .listed)) ⌝ }
+    requires { ⌜ Sized (shelf .geometry) × (Measures (shelf .geometry) (now list) × Lists (words (now list)) (shelf .geometry) (shelf .listed)) ⌝ }
     ensures { λ r. ⌜ Rewritten (shelf .geometry) (keptEntries shelf (now (list .entry))) (now (list .exit)) (r .listed) × (r ≡ rebuiltRecord shelf (r .listed)) ⌝ }
 {
     let n = alter::drop_lost(list, shelf);

@@ -3,15 +3,15 @@
 ghost use mathlib.Core.Path.{_≡_};
 ghost use Prim.Native.Nat.{_≤_, _<_};
 ghost use Rattle.shelf.specs.Counting.{count, any, Tests};
-ghost use Rattle.shelf.specs.Members.{arrayMembers, logMember, allMembers};
+ghost use Rattle.shelf.specs.Members.{Sized, arrayMembers, logMember, allMembers};
 ghost use Rattle.shelf.specs.Status.{arrayFailed, logFailed};
 ghost use Rattle.shelf.specs.Calls.{parityFailed};
 ghost use Rattle.shelf.specs.Lent.{flagAt, flagFrom};
 ghost use Rattle.shelf.specs.Records.{failedRole, withMode, withFailed, withRenewed, withListed, withLogged, withCleared};
 
 // The measures of a shelf, by the customer's letters: d data blocks a stripe (2 to 16), s stripes (1 to 65,536), blocks of b bytes
-// (1 to 4,096), a log of l records (1 to 65,536), a list of h hash slots (1 to 256) and e places (1 to 4,096); and the layout
-// (0 fixed, 1 rotating).
+// (1 to 4,096), a log of l records (1 to 65,536), a list of h hash slots (1 to 256) and e places (1 to 4,096); the layout (0
+// fixed, 1 rotating); and the number of parities (1 or 2).
 #[repr(C)]
 pub struct Geometry {
     pub d: usize,
@@ -21,6 +21,7 @@ pub struct Geometry {
     pub h: usize,
     pub e: usize,
     pub layout: usize,
+    pub parities: usize,
 }
 
 // The record: the mode (0 normal, 1 accelerating, 2 transitional), the next free log record, the count of listed blocks, and one
@@ -35,28 +36,28 @@ pub struct Shelf {
 }
 
 impl Geometry {
-    // How many members the array has: one for each role of a stripe, data, P and Q.
+    // How many members the array has: one for each role of a stripe, data and parities.
     pub fn array_members(self) -> usize
-        requires { ⌜ self .d ≤ 16 ⌝ }
+        requires { ⌜ Sized self ⌝ }
         ensures { λ r. ⌜ r ≡ arrayMembers self ⌝ }
     {
-        self.d + 2
+        self.d + self.parities
     }
 
-    // The log's number among the members.
+    // The log's number among the members: it comes after the array's.
     pub fn log_member(self) -> usize
-        requires { ⌜ self .d ≤ 16 ⌝ }
+        requires { ⌜ Sized self ⌝ }
         ensures { λ r. ⌜ r ≡ logMember self ⌝ }
     {
-        self.d + 2
+        self.array_members()
     }
 
     // How many members there are in all, the log included.
     pub fn all_members(self) -> usize
-        requires { ⌜ self .d ≤ 16 ⌝ }
+        requires { ⌜ Sized self ⌝ }
         ensures { λ r. ⌜ r ≡ allMembers self ⌝ }
     {
-        self.d + 3
+        self.array_members() + 1
     }
 }
 
@@ -106,7 +107,7 @@ impl Shelf {
 
     // Whether a member of the array has failed.
     pub fn array_failed(self) -> bool
-        requires { ⌜ self .geometry .d ≤ 16 ⌝ }
+        requires { ⌜ Sized (self .geometry) ⌝ }
         ensures { λ r. ⌜ r ≡ arrayFailed (self .geometry) (flagAt self) ⌝ }
     {
         let g = self.geometry;
@@ -115,7 +116,7 @@ impl Shelf {
 
     // Whether the log has failed.
     pub fn log_failed(self) -> bool
-        requires { ⌜ self .geometry .d ≤ 16 ⌝ }
+        requires { ⌜ Sized (self .geometry) ⌝ }
         ensures { λ r. ⌜ r ≡ logFailed (self .geometry) (flagAt self) ⌝ }
     {
         let g = self.geometry;
@@ -124,28 +125,31 @@ impl Shelf {
 
     // Whether the member that has role i in stripe x has failed.
     pub fn role_failed(self, x: usize, i: usize) -> bool
-        requires { ⌜ (self .geometry .d ≤ 16) × (i < arrayMembers (self .geometry)) ⌝ }
+        requires { ⌜ Sized (self .geometry) × (i < arrayMembers (self .geometry)) ⌝ }
         ensures { λ r. ⌜ r ≡ failedRole self x i ⌝ }
     {
         let g = self.geometry;
-        self.has_failed(stripe::places::member(g.layout, g.d, x, i))
+        self.has_failed(stripe::places::member(g.layout, g.d, g.parities, x, i))
     }
 
-    // Whether P or Q of stripe x is on a failed member.
+    // Whether a parity of stripe x is on a failed member.
     pub fn parity_failed(self, x: usize) -> bool
-        requires { ⌜ self .geometry .d ≤ 16 ⌝ }
+        requires { ⌜ Sized (self .geometry) ⌝ }
         ensures { λ r. ⌜ r ≡ parityFailed (self .geometry) (flagAt self) x ⌝ }
     {
-        let d = self.geometry.d;
-        if self.role_failed(x, d) {
+        let g = self.geometry;
+        if self.role_failed(x, g.d) {
             return true;
         }
-        self.role_failed(x, d + 1)
+        if g.parities == 1 {
+            return false;
+        }
+        self.role_failed(x, g.d + 1)
     }
 
     // Which roles of stripe x are on failed members, a test for each.
     pub fn failed_roles(self, x: usize) -> [bool; 18]
-        requires { ⌜ self .geometry .d ≤ 16 ⌝ }
+        requires { ⌜ Sized (self .geometry) ⌝ }
         ensures { λ r. ⌜ Tests (arrayMembers (self .geometry)) (failedRole self x) r ⌝ }
     {
         let g = self.geometry;
@@ -176,7 +180,7 @@ impl Shelf {
 
     // The record after member j failed. If it is the log, mode 1 becomes 2 when blocks are listed, else 0.
     pub fn fail(mut self, j: usize) -> Shelf
-        requires { ⌜ (self .geometry .d ≤ 16) × (j < 19) ⌝ }
+        requires { ⌜ Sized (self .geometry) × (j < 19) ⌝ }
         ensures { λ r. ⌜ r ≡ withFailed self j ⌝ }
     {
         let g = self.geometry;
@@ -200,7 +204,7 @@ impl Shelf {
 
     // The record with the flags of the array's members cleared.
     pub fn clear_array(mut self) -> Shelf
-        requires { ⌜ self .geometry .d ≤ 16 ⌝ }
+        requires { ⌜ Sized (self .geometry) ⌝ }
         ensures { λ r. ⌜ r ≡ withCleared self ⌝ }
     {
         let g = self.geometry;

@@ -11,7 +11,7 @@ ghost use Rattle.shelf.specs.Words.{words};
 ghost use Rattle.shelf.specs.HashList.{Measures, Lists, entries};
 ghost use Rattle.shelf.specs.Rewriting.{Rewritten, dropStripe};
 
-// Makes P and Q of stripe t of the data that stand in the array, and drops its entries from a list of n entries that passes
+// Makes the parities of stripe t of the data that stand in the array, and drops its entries from a list of n entries that passes
 // number 3. Answers how many entries are left.
 pub fn make_stripe(
     array: &mut [u8],
@@ -21,8 +21,8 @@ pub fn make_stripe(
     n: usize,
 ) -> usize
     requires { ⌜ InRange g × ((t < g .s) × ((length (now array) ≡ arrayLength g) × (Measures g (now list) × Lists (words (now list)) g n))) ⌝ }
-    ensures { λ r. ⌜ (now (array .exit) ≡ parityMade (placeAt g t) (g .d) (g .b) (now (array .entry))) × Rewritten g (dropStripe (g .d) t (entries (words (now (list .entry))) g)) (now (list .exit)) r ⌝ }
+    ensures { λ r. ⌜ (now (array .exit) ≡ parityMade (placeAt g t) (g .d) (g .parities) (g .b) (now (array .entry))) × Rewritten g (dropStripe (g .d) t (entries (words (now (list .entry))) g)) (now (list .exit)) r ⌝ }
 {
-    stripe::parity::make_parity(array, g.layout, g.d, g.s, t, g.b);
+    stripe::parity::make_parity(array, g.layout, g.d, g.parities, g.s, t, g.b);
     alter::drop_stripe(list, g, t, n)
 }

@@ -1,10 +1,12 @@
 -- The parity of RAID-6 and the recovery of missing blocks, after H. P. Anvin, "The mathematics of RAID-6", with his letters: data D, parities P
--- and Q. A role is a block's part in its stripe: data 0 to d - 1, P is d, Q is d + 1. All of it is about one column of the stripe: a byte of each
--- of its blocks, from the same place in each. D i is the byte of role i.
+-- and Q. A stripe has k parities, 2 or 1: with one there is no Q. A role is a block's part in its stripe: data 0 to d - 1, P is d, Q is d + 1; so
+-- there are d + k roles. All of it is about one column of the stripe: a byte of each of its blocks, from the same place in each. D i is the byte of
+-- role i.
 -- Assumes nothing.
 use mathlib.Core.Bool.{Bool, true, false}
+use mathlib.Core.Logic.{_⊎_}
 use mathlib.Core.Path.{_≡_}
-use Prim.Native.Nat.{ℕ, zero, suc, _+_}
+use Prim.Native.Nat.{ℕ, zero, suc, _+_, _≤_, _<_}
 use lib.Bits.{bitXor}
 use lib.Dec.{eqb, ltb}
 use Rattle.field.specs.Field.{pow2, times, inverse}
@@ -19,7 +21,7 @@ unfoldable pub sum : (ℕ → ℕ) → (ℕ → ℕ) → ℕ → ℕ
 sum w D zero = 0
 sum w D (suc n) = bitXor (sum w D n) (times (w n) (D n))
 
--- P's weights are all 1, and Q's weight of data i is 2 to the power i
+-- P's weightIn are all 1, and Q's weight of data i is 2 to the power i
 unfoldable pub one : ℕ → ℕ
 one i = 1
 
@@ -33,16 +35,27 @@ parityP d D = sum one D d
 unfoldable pub parityQ : ℕ → (ℕ → ℕ) → ℕ
 parityQ d D = sum weight D d
 
--- the column with P and Q made of the data
+-- Parity number j of the data, which role d + j has: the sum by its weights. P is number 0 and Q number 1; no stripe has another.
+unfoldable pub weightIn : ℕ → ℕ → ℕ
+weightIn zero = one
+weightIn (suc _) = weight
+
+unfoldable pub parityOf : ℕ → ℕ → (ℕ → ℕ) → ℕ
+parityOf j d D = sum (weightIn j) D d
+
+-- the column with its parities made of the data; with one parity no role is above P's
 unfoldable pub made : ℕ → (ℕ → ℕ) → ℕ → ℕ
 made d D i = pick (ltb i d) (D i) (pick (eqb i d) (parityP d D) (parityQ d D))
 
--- a column that obeys Anvin's equations
-pub record Obeys (d : ℕ) (D : ℕ → ℕ) : Type 0 where
-  pub p : D d ≡ parityP d D
-  pub q : D (d + 1) ≡ parityQ d D
+-- a column that obeys Anvin's equations, one for each of its k parities
+pub record Obeys (d k : ℕ) (D : ℕ → ℕ) : Type 0 where
+  pub each : (j : ℕ) → j < k → D (d + j) ≡ parityOf j d D
 
 -- ---- recovery of roles x and y; the same role named twice is one missing block
+
+-- no more roles are missing than there are parities, of which there is one at least
+abbrev pub Recoverable : ℕ → ℕ → ℕ → Type 0
+Recoverable k x y = (x ≡ y) ⊎ (2 ≤ k)
 
 -- the column with 0 for x and y
 unfoldable pub without : ℕ → ℕ → (ℕ → ℕ) → ℕ → ℕ

@@ -9,7 +9,7 @@ use lib.Bits.{bitXor}
 use lib.Dec.{eqb, ltb}
 use lib.ListN.{length, getD}
 use Rattle.field.specs.Field.{double, times, inverse, Multiples}
-use Rattle.stripe.specs.Parity.{pick, weight, parityP, parityQ, made, without, restP, dataSolved}
+use Rattle.stripe.specs.Parity.{pick, weight, parityP, parityQ, parityOf, made, without, restP, dataSolved}
 use Rattle.stripe.specs.Places.{inOrder, Tabled, Held, Whole}
 
 -- ---- rows of bytes
@@ -59,13 +59,13 @@ pub record PutRow (at w : ℕ) (x a₀ a : List ℕ) : Type 0 where
 
 -- ---- parity, made some columns at a time; the table at has the offset of each role's block
 
--- the table has the offsets of n runs of k bytes that lie within a buffer of size bytes; of n runs of k bytes that share none
-pub record Spans (n k size : ℕ) (at : List ℕ) : Type 0 where
+-- the table has the offsets of n runs of w bytes that lie within a buffer of size bytes; of n runs of w bytes that share none
+pub record Spans (n w size : ℕ) (at : List ℕ) : Type 0 where
   pub long : n ≤ length at
-  pub within : (i : ℕ) → i < n → getD at i 0 + k ≤ size
+  pub within : (i : ℕ) → i < n → getD at i 0 + w ≤ size
 
 abbrev pub Disjoint : ℕ → ℕ → List ℕ → Type 0
-Disjoint n k at = (i m : ℕ) → i < n → m < n → i ≢ m → Apart (getD at i 0) (getD at m 0) k
+Disjoint n w at = (i m : ℕ) → i < n → m < n → i ≢ m → Apart (getD at i 0) (getD at m 0) w
 
 -- column j of the stripe in the buffer a; and what h makes of it
 unfoldable pub columnFrom : List ℕ → List ℕ → ℕ → ℕ → ℕ
@@ -78,21 +78,20 @@ byStart h at a j = h (columnFrom at a j)
 abbrev pub SumsAt : List ℕ → ℕ → List ℕ → ℕ → ℕ → List ℕ → List ℕ → Type 0
 SumsAt at d a o w p q = Starts w p (later (byStart (parityP d) at a) o) × Starts w q (later (byStart (parityQ d) at a) o)
 
--- the array a is a₀ but for the stripe's P and Q, blocks of b bytes, whose first o columns are made of a₀'s data
-pub record Partly (at : List ℕ) (d b o : ℕ) (a₀ a : List ℕ) : Type 0 where
+-- the array a is a₀ but for the stripe's k parities, blocks of b bytes, whose first o columns are made of a₀'s data
+pub record Partly (at : List ℕ) (d k b o : ℕ) (a₀ a : List ℕ) : Type 0 where
   pub same-length : length a ≡ length a₀
-  pub in-p : (j : ℕ) → j < o → columnFrom at a j d ≡ byStart (parityP d) at a₀ j
-  pub in-q : (j : ℕ) → j < o → columnFrom at a j (d + 1) ≡ byStart (parityQ d) at a₀ j
-  pub others : (i : ℕ) → Outside i (getD at d 0) b → Outside i (getD at (d + 1) 0) b → getD a i 0 ≡ getD a₀ i 0
+  pub in-parity : (p j : ℕ) → p < k → j < o → columnFrom at a j (d + p) ≡ byStart (parityOf p d) at a₀ j
+  pub others : (i : ℕ) → ((p : ℕ) → p < k → Outside i (getD at (d + p) 0) b) → getD a i 0 ≡ getD a₀ i 0
 
 -- ---- recovery, role by role
 
--- what a sum over the blocks of a stripe asks of its arguments: at most 16 data blocks, an array of n blocks, a table of block numbers of the array
--- with the log behind it, and a working block of b bytes
+-- what a sum over the blocks of a stripe asks of its arguments: at most 16 data blocks, an array of n blocks, a table of the block numbers of the
+-- data and P over the array with the log behind it, and a working block of b bytes
 pub record Gathers (d n b : ℕ) (array log ns work : List ℕ) : Type 0 where
   pub data-most : d ≤ 16
   pub whole : length array ≡ n * b
-  pub held : Held (d + 2) b (length array + length log) ns
+  pub held : Held (d + 1) b (length array + length log) ns
   pub working : length work ≡ b
 
 -- what data i gives to the sum for P where x and y are missing, and the sum
@@ -137,14 +136,14 @@ quotient d x y f w j = times (inverse (coefficient d x y)) (bitXor (getD w j 0) 
 unfoldable pub ofSum : ℕ → ℕ → ℕ → (ℕ → ℕ) → ℕ
 ofSum d x y D = times (inverse (coefficient d x y)) (bitXor (standingQ d x x D) (D (d + 1)))
 
--- ---- recovery in two steps, each on every column: the data where it is missing, then P and Q of the data
+-- ---- recovery in two steps, each on every column: the data where it is missing, then the parities of the data
 
 -- what a step asks of its arguments: the measures, a working block of b bytes, and a table of the stripe's block numbers
-pub record Workable (d b : ℕ) (stripe work ns : List ℕ) : Type 0 where
-  pub measures : Whole d b (length stripe)
+pub record Workable (d k b : ℕ) (stripe work ns : List ℕ) : Type 0 where
+  pub measures : Whole d k b (length stripe)
   pub working : length work ≡ b
-  pub long : d + 2 ≤ length ns
-  pub table : Tabled (d + 2) inOrder ns
+  pub long : d + k ≤ length ns
+  pub table : Tabled (d + k) inOrder ns
 
 -- column D with what h makes of it for role m
 unfoldable pub replaced : ℕ → ((ℕ → ℕ) → ℕ) → (ℕ → ℕ) → ℕ → ℕ

@@ -65,5 +65,5 @@ pub fn some(random: &mut Random) -> Measures {
         14 => far(random),
         _ => WIDE[pick(4, random)],
     };
-    Measures { d, s, b, l, h, e, layout: 0 }
+    Measures { d, s, b, l, h, e, layout: 0, parities: 2 }
 }

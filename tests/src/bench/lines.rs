@@ -32,10 +32,10 @@ fn values<const N: usize>(fields: [&[u8]; N]) -> Option<[usize; N]> {
     values?.try_into().ok()
 }
 
-/// The six measures of a line, whether or not they are within their ranges; the layout is fixed.
+/// The six measures of a line, whether or not they are within their ranges; the layout is fixed, with two parities.
 pub fn measures(line: &[u8]) -> Option<Measures> {
     let [d, s, b, l, h, e] = values(fields(line)?)?;
-    Some(Measures { d, s, b, l, h, e, layout: 0 })
+    Some(Measures { d, s, b, l, h, e, layout: 0, parities: 2 })
 }
 
 /// A call line that can be read: its name, the call, and the third value.

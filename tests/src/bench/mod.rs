@@ -124,8 +124,8 @@ pub fn group(seed: u64) -> Outcome {
     Ok(format!(
         "{total} random inputs, {}; {} lines as the model has them, each number of each call {answers} times at least, \
          each way of the work {ways}, each damage of a line {damages}; {stored} inputs by hand, the printed session, \
-         the same with fetch, K4 to K13, rebuilds of parity, both reads and seven measures; {cuts} of that session cut \
-         at every byte; seed {seed}",
+         the same with fetch, K4 to K13, rebuilds of parity, both reads and seven or eight measures; {cuts} of that \
+         session cut at every byte; seed {seed}",
         kinds.join(", "),
         reached.lines()
     ))

@@ -38,7 +38,7 @@ impl Bench {
         self.shelf.data = data;
         let code = findings(call, &self.shelf).code();
         let (due, events) = outcome(call, &self.shelf, code);
-        seen.count(self.shelf.record.measures.layout, events);
+        seen.count(self.shelf.record.measures, events);
         let first = due.data.as_ref().and_then(|data| data.first().copied());
         self.take(due);
         (code, first.unwrap_or(0))

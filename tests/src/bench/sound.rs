@@ -21,7 +21,7 @@ pub fn digits(value: usize) -> Vec<u8> {
     value.to_string().into_bytes()
 }
 
-/// The fields of measures; the layout is none of them.
+/// The fields of measures; the layout and the parities are none of them.
 pub fn of_measures(m: Measures) -> Fields {
     let Measures { d, s, b, l, h, e, .. } = m;
     [d, s, b, l, h, e].map(digits).to_vec()
@@ -30,7 +30,7 @@ pub fn of_measures(m: Measures) -> Fields {
 /// Random measures that the program accepts.
 pub fn measures(random: &mut Random) -> Measures {
     loop {
-        let m = Measures { layout: 0, ..sequences::measures(random) };
+        let m = Measures { layout: 0, parities: 2, ..sequences::measures(random) };
         if Bench::fresh(m).is_some() {
             return m;
         }
@@ -102,7 +102,7 @@ pub fn calls(m: Measures, most: usize, random: &mut Random) -> Result<Vec<Fields
 /// Measures of a small shelf with room for all its blocks in log and list.
 pub fn roomy(random: &mut Random) -> Measures {
     let (d, s, b, h) = (2 + pick(5, random), 1 + pick(3, random), 1 + pick(3, random), 1 + pick(8, random));
-    Measures { d, s, b, l: 4 * d * s, h, e: d * s, layout: 0 }
+    Measures { d, s, b, l: 4 * d * s, h, e: d * s, layout: 0, parities: 2 }
 }
 
 /// The call lines of a session in which members fail after logged writes, the first of them over all blocks of a stripe

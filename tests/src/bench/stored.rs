@@ -230,10 +230,11 @@ fn stored(&(name, measures, steps): &Session) -> Stored {
     Stored { name, input, output }
 }
 
-/// The customer's session with a seventh measure, in which a shelf has its layout: it can't be read.
-fn with_layout(layout: usize) -> Stored {
-    let input = INPUT.replacen("3 2 1 4 2 4\n", &format!("3 2 1 4 2 4 {layout}\n"), 1);
-    Stored { name: "seven measures", input, output: [COLUMNS, "format 1 0 0 0 0"].map(String::from).to_vec() }
+/// The customer's session with a seventh measure, in which a shelf has its layout, or an eighth too, in which it has
+/// its count of parities: neither can be read.
+fn with_more(measures: &str) -> Stored {
+    let input = INPUT.replacen("3 2 1 4 2 4\n", &format!("3 2 1 4 2 4 {measures}\n"), 1);
+    Stored { name: "more measures", input, output: [COLUMNS, "format 1 0 0 0 0"].map(String::from).to_vec() }
 }
 
 /// The customer's session with so many zeros before the first measure and before a value of the first call.
@@ -244,7 +245,9 @@ fn with_zeros(count: usize) -> Stored {
     Stored { name: "long lines", input, output: OUTPUT.lines().map(String::from).collect() }
 }
 
-/// The customer's session as it is printed and with long lines, those worked out by hand, and ones with seven measures.
+/// The customer's session as it is printed and with long lines, those worked out by hand, and ones with seven or eight
+/// measures.
 pub fn all() -> Vec<Stored> {
-    [0, 110, 70_000].map(with_zeros).into_iter().chain(SESSIONS.iter().map(stored)).chain([0, 1].map(with_layout)).collect()
+    let more = ["0", "1", "0 2", "0 1"].map(with_more);
+    [0, 110, 70_000].map(with_zeros).into_iter().chain(SESSIONS.iter().map(stored)).chain(more).collect()
 }

@@ -55,30 +55,46 @@ impl Book {
         (0..self.m.s).filter(|&stripe| self.awaits(stripe)).count()
     }
 
+    /// The parities that there are: P and Q, or P alone.
+    fn parities(&self) -> usize {
+        match self.m.parities {
+            1 => 1,
+            _ => 2,
+        }
+    }
+
+    /// The log's number: the one after P, or after Q where that is there.
+    fn log(&self) -> usize {
+        match self.m.parities {
+            1 => self.m.d + 1,
+            _ => self.m.d + 2,
+        }
+    }
+
     /// Whether a member of the array has failed.
     fn array_failed(&self) -> bool {
-        self.members.iter().any(|&member| member < self.m.d + 2)
+        self.members.iter().any(|&member| member != self.log())
     }
 
     /// Whether the log has failed.
     fn log_failed(&self) -> bool {
-        self.members.contains(&(self.m.d + 2))
+        self.members.contains(&self.log())
     }
 
     /// How far a member stands after the one that has P in a stripe, counted round: 0 is P's own, 1 is Q's, 2 that of
-    /// data index 0, and so on.
+    /// data index 0, and so on; without Q that of data index 0 is 1.
     pub fn after_p(&self, member: usize, stripe: usize) -> usize {
-        let n = self.m.d + 2;
+        let n = self.m.d + self.parities();
         match self.m.layout {
-            0 => (member + 2) % n,
+            0 => (member + n - self.m.d) % n,
             _ => (member + stripe + 1) % n,
         }
     }
 
     /// Whether an address has its own member failed.
     pub fn loses(&self, address: usize) -> bool {
-        let (stripe, place) = (address / self.m.d, 2 + address % self.m.d);
-        self.members.iter().any(|&member| member < self.m.d + 2 && self.after_p(member, stripe) == place)
+        let (stripe, place) = (address / self.m.d, self.parities() + address % self.m.d);
+        self.members.iter().any(|&member| member != self.log() && self.after_p(member, stripe) == place)
     }
 
     /// Whether an address has its own member and the log both failed while its stripe awaits resynchronisation.
@@ -94,9 +110,9 @@ impl Book {
             Call::Start if self.array_failed() => 8,
             Call::Start if self.log_failed() => 9,
             Call::Start => 0,
-            Call::Fail(member) if member > self.m.d + 2 => 6,
+            Call::Fail(member) if member > self.log() => 6,
             Call::Fail(member) if self.members.contains(&member) => 10,
-            Call::Fail(_) if self.members.len() == 2 => 11,
+            Call::Fail(_) if self.members.len() == self.parities() => 11,
             Call::Fail(_) => 0,
             Call::NewLog if !self.log_failed() => 12,
             Call::NewLog if !self.marks.is_empty() => 13,
@@ -135,7 +151,7 @@ impl Book {
 
     /// Enters an accepted call.
     pub fn enter(&mut self, call: Call, data: &[u8]) {
-        let log = self.m.d + 2;
+        let log = self.log();
         match call {
             Call::Format => *self = Book::fresh(self.m),
             Call::Start => self.mode = 1,
@@ -205,10 +221,10 @@ impl Book {
 
     /// Clears the array's members. The marks of each stripe whose P or Q was on one of them go.
     fn rebuild(&mut self) {
-        let log = self.m.d + 2;
+        let (log, parities) = (self.log(), self.parities());
         let lost: Vec<usize> = self.members.iter().copied().filter(|&member| member != log).collect();
         let made_afresh: Vec<bool> =
-            (0..self.m.s).map(|stripe| lost.iter().any(|&member| self.after_p(member, stripe) < 2)).collect();
+            (0..self.m.s).map(|stripe| lost.iter().any(|&member| self.after_p(member, stripe) < parities)).collect();
         self.marks.retain(|mark| !made_afresh[mark / self.m.d]);
         self.members.retain(|&member| member == log);
     }

@@ -2,7 +2,8 @@
 
 use std::fmt;
 
-/// The measures of a shelf, in the order of the record. The layout is 0 where parity is fixed, 1 where it rotates.
+/// The measures of a shelf, in the order of the record. The layout is 0 where parity is fixed, 1 where it rotates. Of
+/// parities there are two, P and Q, or one, P alone.
 #[repr(C)]
 #[derive(Clone, Copy, Debug, PartialEq)]
 pub struct Measures {
@@ -13,6 +14,15 @@ pub struct Measures {
     pub h: usize,
     pub e: usize,
     pub layout: usize,
+    pub parities: usize,
+}
+
+impl Measures {
+    /// How many members the array has, and so the number of the log, which comes after them; it may be any number where
+    /// the measures are not within their ranges.
+    pub fn log(self) -> usize {
+        self.d.saturating_add(self.parities)
+    }
 }
 
 /// The record of a shelf. A flag is a byte, 0 or 1.
@@ -220,9 +230,10 @@ pub struct Shelf {
 impl fmt::Display for Shelf {
     /// Writes the shelf as a failure names it: the record, the lengths, and a short list whole.
     fn fmt(&self, out: &mut fmt::Formatter) -> fmt::Result {
-        let Record { measures: Measures { d, s, b, l, h, e, layout }, mode, next, listed, failed } = self.record;
+        let Record { measures, mode, next, listed, failed } = self.record;
+        let Measures { d, s, b, l, h, e, layout, parities } = measures;
         let members: Vec<usize> = (0..failed.len()).filter(|&member| failed[member] != 0).collect();
-        write!(out, "d {d}, S {s}, B {b}, L {l}, H {h}, E {e}, layout {layout}, ")?;
+        write!(out, "d {d}, S {s}, B {b}, L {l}, H {h}, E {e}, layout {layout}, parities {parities}, ")?;
         write!(out, "mode {mode}, next {next}, listed {listed}, ")?;
         write!(out, "failed {members:?}, array of {}, log of {}, ", self.array.told, self.log.told)?;
         write!(out, "data of {}, list of {} bytes", self.data.told, self.list.told)?;

@@ -1,7 +1,7 @@
 //! Rows 4 to 16 of the table of numbers, each tried on its own.
 
 use super::calls::{Call, Record, Shelf};
-use super::model::{failed, in_ranges};
+use super::model::{failed, failures, in_ranges};
 use super::roles;
 
 /// The bit of a number where it applies.
@@ -13,14 +13,13 @@ fn is(number: u32, applies: bool) -> u32 {
 /// listed; there are none where nothing can be said of the list.
 pub fn conditions(call: Call, shelf: &Shelf, is_listed: &[bool]) -> u32 {
     let r = &shelf.record;
-    let log = r.measures.d.saturating_add(2);
+    let log = r.measures.log();
     let array_failed = (0..19).any(|member| member < log && failed(r, member));
     match call {
         Call::Format => 0,
         Call::Start => is(7, r.mode != 0) | is(8, array_failed) | is(9, failed(r, log)),
         Call::Fail(member) => {
-            let flags = r.failed.iter().filter(|&&flag| flag != 0).count();
-            is(6, member > log) | is(10, failed(r, member)) | is(11, flags >= 2)
+            is(6, member > log) | is(10, failed(r, member)) | is(11, failures(r) >= r.measures.parities)
         }
         Call::NewLog => is(12, !failed(r, log)) | is(13, r.listed > 0),
         Call::Write { address, count } => request(shelf, address, count) | is(8, array_failed),
@@ -67,7 +66,7 @@ fn lost(r: &Record, address: usize, count: usize) -> bool {
 /// Whether the log failed and a wanted data block is on a failed member in a waiting stripe.
 fn withheld(shelf: &Shelf, is_listed: &[bool], wanted: impl Fn(usize) -> bool) -> bool {
     let (r, d) = (&shelf.record, shelf.record.measures.d);
-    if !failed(r, d.saturating_add(2)) {
+    if !failed(r, r.measures.log()) {
         return false;
     }
     let waiting = is_listed.chunks(d.max(1)).enumerate().filter(|(_, blocks)| blocks.contains(&true));

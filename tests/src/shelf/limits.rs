@@ -24,9 +24,10 @@ const WHOLE: [[usize; 6]; 9] = [
 ];
 
 /// Measures of shelves that only calls get which look at no byte of array and log; of these one byte is lent.
-const TOLD: [[usize; 6]; 4] = [
+const TOLD: [[usize; 6]; 5] = [
     [16, 65536, 4096, 65536, 256, 4096],
     [14, 65536, 4096, 65536, 7, 4095],
+    [15, 65536, 4096, 1, 256, 4096],
     [2, 65536, 4096, 65535, 1, 9],
     [16, 65535, 4095, 65536, 256, 1],
 ];
@@ -39,8 +40,8 @@ enum Used {
     Most,
 }
 
-/// A shelf of this layout of which so much is used.
-fn shelf(measures: [usize; 6], layout: usize, used: Used, random: &mut Random) -> Shelf {
+/// A shelf of this layout and with so many parities of which so much is used.
+fn shelf(measures: [usize; 6], [layout, parities]: [usize; 2], used: Used, random: &mut Random) -> Shelf {
     let [d, s, b, l, h, e] = measures;
     let most = e.min(d * s);
     let (listed, next, mode) = match used {
@@ -48,7 +49,8 @@ fn shelf(measures: [usize; 6], layout: usize, used: Used, random: &mut Random) -
         Used::All => (most, l, 2),
         Used::Most => (most.saturating_sub(5).max(1), l.saturating_sub(9).max(1), 1),
     };
-    let record = Record { measures: Measures { d, s, b, l, h, e, layout }, mode, next, listed, failed: [0; 19] };
+    let measures = Measures { d, s, b, l, h, e, layout, parities };
+    let record = Record { measures, mode, next, listed, failed: [0; 19] };
     let lent = |length: u128| Buffer { bytes: filled(length), told: length as usize };
     let [array, log, _] = lengths(record.measures).map(lent);
     let list = Buffer::of(lists::valid(&record, random).bytes());
@@ -84,12 +86,17 @@ fn damaged(shelf: &Shelf, counts: &mut Damaged, stand: &mut Stand, random: &mut 
     Ok(())
 }
 
-/// Fails unless the calls on a shelf, on the shelf with wrong lengths told, and with a layout that is none, do as the
-/// model does.
+/// Fails unless the calls on a shelf, on the shelf with as many members failed as may be, with one more or with a flag
+/// above the log, with wrong lengths told, and with a layout or a count of parities that is none, or is the other one,
+/// do as the model does.
 fn tried(shelf: &Shelf, stand: &mut Stand) -> Result<(), String> {
-    let log = shelf.record.measures.d + 2;
-    for call in [Call::Start, Call::Fail(log), Call::Fail(log + 1), Call::NewLog] {
-        stand.as_model(call, shelf)?;
+    let m = shelf.record.measures;
+    let log = m.log();
+    let sets = [&[][..], &[log, 0][..m.parities], &[log, 0, 1][..m.parities + 1], &[(log + 1).min(18)]];
+    for shelf in sets.map(|members| with_failed(shelf, members)) {
+        for call in [Call::Start, Call::Fail(log), Call::Fail(log + 1), Call::Fail(1), Call::NewLog] {
+            stand.as_model(call, &shelf)?;
+        }
     }
     for wrong in [1, 1 << 31, 1 << 32, 1 << 33] {
         let mut damaged = shelf.clone();
@@ -97,9 +104,11 @@ fn tried(shelf: &Shelf, stand: &mut Stand) -> Result<(), String> {
         stand.as_model(Call::Start, &damaged)?;
         stand.as_model(Call::Format, &damaged)?;
     }
-    for layout in [2, 3, 1 << 32, (1 << 32) + 1, usize::MAX] {
+    let layouts = [2, 3, 1 << 32, (1 << 32) + 1, usize::MAX].map(|layout| Measures { layout, ..m });
+    let counts = [0, 3, 255, 258, (1 << 32) + 1, usize::MAX, 3 - m.parities].map(|parities| Measures { parities, ..m });
+    for measures in layouts.into_iter().chain(counts) {
         let mut damaged = shelf.clone();
-        damaged.record.measures.layout = layout;
+        damaged.record.measures = measures;
         stand.as_model(Call::Start, &damaged)?;
         stand.as_model(Call::Format, &damaged)?;
     }
@@ -128,11 +137,13 @@ fn ranges(m: Measures) -> [(usize, usize); 4] {
 }
 
 /// The sets of failed members with which blocks are served. Where parity rotates once round or more, each member has
-/// every role, so that three sets serve for the others.
+/// every role, so that a few sets serve for the others.
 fn failed_sets(m: Measures) -> Vec<Vec<usize>> {
-    let (last, p, q, log) = (m.d - 1, m.d, m.d + 1, m.d + 2);
-    match m.layout {
-        1 if m.s >= m.d + 2 => vec![vec![], vec![0, log], vec![0, last], vec![p, q]],
+    let (last, p, q, log) = (m.d - 1, m.d, m.d + 1, m.log());
+    match (m.parities, m.layout) {
+        (1, 1) if m.s >= log => vec![vec![], vec![p], vec![log]],
+        (1, _) => vec![vec![], vec![0], vec![last], vec![p], vec![log]],
+        (_, 1) if m.s >= log => vec![vec![], vec![0, log], vec![0, last], vec![p, q]],
         _ => vec![vec![], vec![0, log], vec![0, last], vec![last, p], vec![0, q], vec![p, log]],
     }
 }
@@ -146,7 +157,7 @@ fn is_slow(m: Measures) -> bool {
 fn served(shelf: &Shelf, stand: &mut Stand) -> Result<(), String> {
     let m = shelf.record.measures;
     for members in failed_sets(m) {
-        if shelf.record.mode == 1 && members.contains(&(m.d + 2)) {
+        if shelf.record.mode == 1 && members.contains(&m.log()) {
             continue;
         }
         let mut shelf = with_failed(shelf, &members);
@@ -187,23 +198,24 @@ fn of_first_listed(shelf: &Shelf) -> usize {
 }
 
 /// Fails unless calls on a shelf of which one byte is lent are refused unseen, as the model does: for an address past
-/// the end, data of which 32 bits tell the right length, a failed member, a stripe that waits, or nothing to do.
+/// the end, data of which 32 bits tell the right length, a failed member, a stripe that waits, or nothing to do. With
+/// one parity the log has not failed too, and nothing is withheld.
 fn refused(shelf: &Shelf, stand: &mut Stand) -> Result<(), String> {
     let m = shelf.record.measures;
-    let (all, log) = (m.d * m.s, m.d + 2);
-    let mut shelf = with_failed(shelf, &[of_first_listed(shelf), log]);
+    let (all, is_withheld) = (m.d * m.s, m.parities == 2 && shelf.record.listed > 0);
+    let mut shelf = with_failed(shelf, &[of_first_listed(shelf), m.log()][..m.parities]);
     shelf.data = Buffer { bytes: vec![1], told: all * m.b };
     for (address, count) in [(0, all), (1, all), (all, all), (usize::MAX - all + 2, all)] {
         stand.as_model(write(address, count), &shelf)?;
         stand.as_model(read(address, count), &shelf)?;
-        if shelf.record.listed > 0 || address > 0 {
+        if is_withheld || address > 0 {
             stand.as_model(fetch(address, count), &shelf)?;
         }
     }
     for call in [Call::Resync, Call::FullResync] {
         stand.as_model(call, &shelf)?;
     }
-    if shelf.record.listed > 0 {
+    if is_withheld {
         stand.as_model(Call::Rebuild, &shelf)?;
     }
     let mut sound = with_failed(&shelf, &[]);
@@ -219,15 +231,22 @@ fn refused(shelf: &Shelf, stand: &mut Stand) -> Result<(), String> {
     Ok(())
 }
 
-/// Tries the shelves at the limits in this layout. Fails unless a list was damaged in each way; hands back how often at
-/// least.
-fn all(layout: usize, stand: &mut Stand, random: &mut Random) -> Result<usize, String> {
-    let mut counts = [0; OF_LIST.len()];
-    for (measures, used) in
-        WHOLE.into_iter().flat_map(|whole| [Used::Nothing, Used::All, Used::Most].map(|used| (whole, used)))
-    {
-        let shelf = shelf(measures, layout, used, random);
-        damaged(&shelf, &mut counts, stand, random)?;
+/// The shelves to be tried in this layout and with so many parities: these measures, with so much used. Each is tried
+/// in one layout with one parity and in the other one with two, and those next to it the other way about.
+fn cases(all: &[[usize; 6]], used: &[Used], [layout, parities]: [usize; 2]) -> Vec<([usize; 6], Used)> {
+    let indices = (0..all.len()).flat_map(|measures| (0..used.len()).map(move |used| (measures, used)));
+    let is_tried = |&(measures, used): &(usize, usize)| (measures + used + layout + parities) % 2 == 0;
+    indices.filter(is_tried).map(|(at, how)| (all[at], used[how])).collect()
+}
+
+/// Tries the shelves at the limits in this layout and with so many parities. Hands back how many there are.
+fn all(kind: [usize; 2], counts: &mut Damaged, stand: &mut Stand, random: &mut Random) -> Result<usize, String> {
+    let whole = cases(&WHOLE, &[Used::Nothing, Used::All, Used::Most], kind);
+    let told = cases(&TOLD, &[Used::Nothing, Used::All], kind);
+    let shelves = whole.len() + told.len();
+    for (measures, used) in whole {
+        let shelf = shelf(measures, kind, used, random);
+        damaged(&shelf, counts, stand, random)?;
         if used != Used::Most {
             tried(&shelf, stand)?;
             stand.as_model(Call::Format, &shelf)?;
@@ -235,26 +254,34 @@ fn all(layout: usize, stand: &mut Stand, random: &mut Random) -> Result<usize, S
         served(&shelf, stand)?;
         worn_out(shelf, stand, random)?;
     }
-    for (measures, used) in TOLD.into_iter().flat_map(|told| [Used::Nothing, Used::All].map(|used| (told, used))) {
-        let shelf = shelf(measures, layout, used, random);
-        damaged(&shelf, &mut counts, stand, random)?;
+    for (measures, used) in told {
+        let shelf = shelf(measures, kind, used, random);
+        damaged(&shelf, counts, stand, random)?;
         tried(&shelf, stand)?;
         refused(&shelf, stand)?;
     }
-    match counts.iter().position(|&count| count == 0) {
-        Some(at) => Err(format!("no list was damaged to have {:?} in layout {layout}", OF_LIST[at])),
-        None => Ok(counts.into_iter().min().unwrap_or(0)),
-    }
+    Ok(shelves)
 }
 
-/// Tries the shelves in both layouts.
+/// Tries the shelves in both layouts and with both counts of parities. Fails unless a list was damaged in each way in
+/// either layout.
 pub fn group(seed: u64) -> Outcome {
     let random = &mut Random::new(seed, 7);
     let stand = &mut Stand::default();
-    let least = all(0, stand, random)?.min(all(1, stand, random)?);
+    let (mut least, mut shelves) = (usize::MAX, 0);
+    for layout in [0, 1] {
+        let mut counts = [0; OF_LIST.len()];
+        for parities in [1, 2] {
+            shelves += all([layout, parities], &mut counts, stand, random)?;
+        }
+        if let Some(at) = counts.iter().position(|&count| count == 0) {
+            return Err(format!("no list was damaged to have {:?} in layout {layout}", OF_LIST[at]));
+        }
+        least = counts.into_iter().fold(least, usize::min);
+    }
     Ok(format!(
-        "{} calls on {} shelves at the limits in each layout, {least} lists at least damaged in each way; seed {seed}",
-        stand.calls,
-        3 * WHOLE.len() + 2 * TOLD.len()
+        "{} calls on {shelves} shelves at the limits in both layouts with both counts of parities, {least} lists at \
+         least damaged in each way; seed {seed}",
+        stand.calls
     ))
 }

@@ -25,9 +25,11 @@ pub enum Fault {
     LowE,
     HighE,
     HighLayout,
+    HighParities,
+    LowParities,
     ModeAbove2,
     FlagAboveLog,
-    ThreeFlags,
+    TooManyFlags,
     NextAboveL,
     ListedAboveE,
     NextWithoutListed,
@@ -67,14 +69,32 @@ pub enum Fault {
 use Fault::*;
 
 /// The faults of the measures in the order of the record: each can be too high or too low, the layout too high only.
-pub const OF_MEASURES: [Fault; 13] =
-    [HighD, LowD, HighS, LowS, HighB, LowB, HighL, LowL, HighH, LowH, HighE, LowE, HighLayout];
+pub const OF_MEASURES: [Fault; 15] = [
+    HighD,
+    LowD,
+    HighS,
+    LowS,
+    HighB,
+    LowB,
+    HighL,
+    LowL,
+    HighH,
+    LowH,
+    HighE,
+    LowE,
+    HighLayout,
+    HighParities,
+    LowParities,
+];
+
+/// The index of the layout's fault.
+const OF_LAYOUT: usize = 12;
 
 /// The faults of the rest of the record.
 pub const OF_RECORD: [Fault; 9] = [
     ModeAbove2,
     FlagAboveLog,
-    ThreeFlags,
+    TooManyFlags,
     NextAboveL,
     ListedAboveE,
     NextWithoutListed,
@@ -116,7 +136,8 @@ pub const OF_LIST: [Fault; 25] = [
 ];
 
 /// The least and the greatest value of each measure, in the order of the record.
-pub const RANGES: [(usize, usize); 7] = [(2, 16), (1, 65536), (1, 4096), (1, 65536), (1, 256), (1, 4096), (0, 1)];
+pub const RANGES: [(usize, usize); 8] =
+    [(2, 16), (1, 65536), (1, 4096), (1, 65536), (1, 256), (1, 4096), (0, 1), (1, 2)];
 
 /// A set of faults.
 #[derive(Clone, Copy, Default, PartialEq)]
@@ -179,16 +200,24 @@ impl Findings {
 }
 
 /// The measures as a list, in the order of the record.
-pub fn values(m: Measures) -> [usize; 7] {
-    [m.d, m.s, m.b, m.l, m.h, m.e, m.layout]
+pub fn values(m: Measures) -> [usize; 8] {
+    [m.d, m.s, m.b, m.l, m.h, m.e, m.layout, m.parities]
+}
+
+/// The measure that the fault with this index among those of the measures is of, by its place in the record, and
+/// whether it is too high. Each has a fault of this kind first, then one of the other, but the layout is never too low.
+pub fn side(index: usize) -> (usize, bool) {
+    let index = if index > OF_LAYOUT { index + 1 } else { index };
+    (index / 2, index % 2 == 0)
 }
 
 /// The faults of the measures.
 fn measure_faults(m: Measures) -> Faults {
     let mut faults = Faults::default();
-    for (at, fault) in OF_MEASURES.into_iter().enumerate() {
-        let (value, (low, high)) = (values(m)[at / 2], RANGES[at / 2]);
-        faults.add(fault, if at % 2 == 0 { value > high } else { value < low });
+    for (index, fault) in OF_MEASURES.into_iter().enumerate() {
+        let (at, is_high) = side(index);
+        let (value, (low, high)) = (values(m)[at], RANGES[at]);
+        faults.add(fault, if is_high { value > high } else { value < low });
     }
     faults
 }
@@ -203,12 +232,17 @@ pub fn failed(record: &Record, member: usize) -> bool {
     record.failed.get(member).is_some_and(|&flag| flag != 0)
 }
 
-/// Adds the faults of the rest of the record.
+/// How many members have failed.
+pub fn failures(record: &Record) -> usize {
+    record.failed.iter().filter(|&&flag| flag != 0).count()
+}
+
+/// Adds the faults of the rest of the record. As many members may be failed as there are parities.
 fn record_faults(r: &Record, faults: &mut Faults) {
-    let log = r.measures.d.saturating_add(2);
+    let log = r.measures.log();
     faults.add(ModeAbove2, r.mode > 2);
     faults.add(FlagAboveLog, (0..19).any(|member| member > log && failed(r, member)));
-    faults.add(ThreeFlags, r.failed.iter().filter(|&&flag| flag != 0).count() > 2);
+    faults.add(TooManyFlags, failures(r) > r.measures.parities);
     faults.add(NextAboveL, r.next > r.measures.l);
     faults.add(ListedAboveE, r.listed > r.measures.e);
     faults.add(NextWithoutListed, r.listed == 0 && r.next > 0);
@@ -219,8 +253,8 @@ fn record_faults(r: &Record, faults: &mut Faults) {
 
 /// The lengths of array, log and list that the measures ask for.
 pub fn lengths(m: Measures) -> [u128; 3] {
-    let [d, s, b, l, h, e, _] = values(m).map(|value| value as u128);
-    [((d + 2) * s).saturating_mul(b), l * b, 4 * h + 16 * e]
+    let [d, s, b, l, h, e, _, parities] = values(m).map(|value| value as u128);
+    [(d + parities).saturating_mul(s).saturating_mul(b), l * b, 4 * h + 16 * e]
 }
 
 /// The faults of the lengths.

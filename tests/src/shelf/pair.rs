@@ -4,9 +4,9 @@ use super::book::Book;
 use super::calls::{Buffer, Call, Measures, Record, Shelf};
 use super::layout::List;
 use super::model::lengths;
+use super::parity::made;
 use super::roles;
 use super::stand::Stand;
-use crate::model::made;
 
 /// A shelf that a sequence of calls from a fresh one reached, and the book of that sequence.
 #[derive(Clone)]
@@ -68,11 +68,11 @@ impl Pair {
 
     /// Overwrites the failed members.
     pub fn spoil(&mut self) {
-        let Record { measures: Measures { d, s, b, .. }, failed, .. } = self.shelf.record;
-        for member in (0..d + 2).filter(|&member| failed[member] != 0) {
-            self.shelf.array.bytes[member * s * b..][..s * b].fill(200 + member as u8);
+        let Record { measures: m, failed, .. } = self.shelf.record;
+        for member in (0..m.log()).filter(|&member| failed[member] != 0) {
+            self.shelf.array.bytes[member * m.s * m.b..][..m.s * m.b].fill(200 + member as u8);
         }
-        if failed[d + 2] != 0 {
+        if failed[m.log()] != 0 {
             self.shelf.log.bytes.fill(250);
         }
     }
@@ -96,15 +96,15 @@ impl Pair {
         Err(format!("the book has mode, u {counts:?}, {members:?} failed, {marks:?} marked; the shelf: {}", self.shelf))
     }
 
-    /// Fails unless each data block on a sound member is the book's, and P and Q, each where its member is sound, are
-    /// those of the book's blocks in every stripe that does not await resynchronisation.
+    /// Fails unless each data block on a sound member is the book's, and P and Q, each where it is there and its member
+    /// sound, are those of the book's blocks in every stripe that does not await resynchronisation.
     pub fn holds(&self) -> Result<(), String> {
         let m = self.shelf.record.measures;
         let Measures { d, s, b, .. } = m;
         for stripe in 0..s {
             let data = (stripe * d..(stripe + 1) * d).flat_map(|address| self.book.block(address));
-            let row = made(d, b, &data.copied().chain(vec![0; 2 * b]).collect::<Vec<u8>>());
-            let count = if self.book.awaits(stripe) { d } else { d + 2 };
+            let row = made(m, &data.copied().chain(vec![0; m.parities * b]).collect::<Vec<u8>>());
+            let count = if self.book.awaits(stripe) { d } else { m.log() };
             for (block, member) in row.chunks(b).zip(roles::members(m, stripe)).take(count) {
                 if self.shelf.record.failed[member] == 0 && block != self.stored(member, stripe) {
                     return Err(format!("member {member} of stripe {stripe} is not the book's; {}", self.shelf));

@@ -80,7 +80,7 @@ fn unformatted(line: &str) -> Result<Shelf, String> {
     let [d, s, b, l, h, e] = numbers(line)?[..] else {
         return Err("there are not six measures".into());
     };
-    let measures = Measures { d, s, b, l, h, e, layout: 0 };
+    let measures = Measures { d, s, b, l, h, e, layout: 0, parities: 2 };
     let record = Record { measures, mode: 5, next: 6, listed: 7, failed: [1; 19] };
     let [array, log, list, data] =
         [(d + 2) * s * b, l * b, 4 * h + 16 * e, 0].map(|length| Buffer::of(vec![77; length]));

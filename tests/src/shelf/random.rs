@@ -1,4 +1,5 @@
-//! Random shelves against the model: sound ones, ones damaged in one or two ways, and nonsense.
+//! Random shelves against the model: sound ones, ones damaged in one or two ways, ones whose record names the other
+//! count of parities, and nonsense.
 
 use super::calls::{fetch, read, write, Buffer, Call, Measures, Record, Shelf};
 use super::damage::damage_list;
@@ -15,6 +16,9 @@ use crate::Outcome;
 
 /// How many shelves are tried; each is lent to every call.
 const SHELVES: usize = 80_000;
+
+/// How many of those that name the other count of parities are tried besides.
+const MISCOUNTED: usize = 2_000;
 
 /// The most bytes that a buffer has which is lent whole: a little more than the longest list.
 const WHOLE: usize = 70_000;
@@ -94,6 +98,30 @@ fn damaged(fault: Fault, random: &mut Random) -> Result<Plan, String> {
     Err(format!("no sound shelf can be damaged to have {fault:?}"))
 }
 
+/// A sound shelf whose record names the other count of parities than its array has; the flags and the list stay.
+fn miscounted(random: &mut Random) -> Plan {
+    let mut plan = sound(random);
+    plan.record.measures.parities = 3 - plan.record.measures.parities;
+    plan
+}
+
+/// Fails unless such a shelf gets 1 by its flags, else 2 by the array's length: a record that names one parity may have
+/// no two flags, none above d + 1, and not that of d + 1 in mode 1.
+fn told_apart(shelf: &Shelf, stand: &mut Stand, counts: &mut Miscounts) -> Result<(), String> {
+    let Record { measures: m, mode, failed, .. } = shelf.record;
+    let members: Vec<usize> = (0..19).filter(|&member| failed[member] != 0).collect();
+    let is_wrong = |&member: &usize| member > m.d + 1 || member == m.d + 1 && mode == 1;
+    let due = if m.parities == 1 && (members.len() > 1 || members.iter().any(is_wrong)) { 1 } else { 2 };
+    counts[m.layout][m.parities - 1][due - 1] += 1;
+    match stand.answer(Call::Start, shelf)? {
+        code if code == due => Ok(()),
+        code => Err(format!("start answers {code}, not {due}, where the other count is named; the shelf: {shelf}")),
+    }
+}
+
+/// How often 1 and 2 were due of such shelves, by layout and by the count that is named, less one.
+type Miscounts = [[[usize; 2]; 2]; 2];
+
 /// A sound shelf damaged in the way named and, where its measures are still sound, once more in record or lengths.
 fn damaged_twice(fault: Fault, random: &mut Random) -> Result<Plan, String> {
     let mut plan = damaged(fault, random)?;
@@ -137,13 +165,13 @@ fn shelf(plan: Plan, random: &mut Random) -> Shelf {
 }
 
 /// A member to fail: mostly one that is there, else next to the last one or nonsense.
-fn some_member(d: usize, random: &mut Random) -> usize {
+fn some_member(m: Measures, random: &mut Random) -> usize {
     match random.below(8) {
-        0 => d.wrapping_add(3),
-        1 => d.wrapping_add(2),
-        2 => records::above(d.min(16) + 2, random),
+        0 => m.log().wrapping_add(1),
+        1 => m.log(),
+        2 => records::above(m.log().min(18), random),
         3 => pick(20, random),
-        _ => pick(d.min(16) + 3, random),
+        _ => pick(m.log().min(18) + 1, random),
     }
 }
 
@@ -155,7 +183,7 @@ fn every_call(m: Measures, random: &mut Random) -> [(Call, Buffer); CALLS] {
     let alone = |call: Call| (call, Buffer::empty());
     [
         alone(Call::Start),
-        alone(Call::Fail(some_member(m.d, random))),
+        alone(Call::Fail(some_member(m, random))),
         alone(Call::NewLog),
         read,
         fetch,
@@ -201,6 +229,23 @@ fn plan(random: &mut Random) -> Result<(Plan, Option<Fault>), String> {
     })
 }
 
+/// Tries shelves whose record names the other count of parities. Fails unless both numbers were due where one parity is
+/// named for two, and 2 where two are for one: such a record passes. Hands back how often at least.
+fn all_told_apart(stand: &mut Stand, tally: &mut Tally, random: &mut Random) -> Result<usize, String> {
+    let mut counts = Miscounts::default();
+    for _ in 0..MISCOUNTED {
+        let mut shelf = shelf(miscounted(random), random);
+        told_apart(&shelf, stand, &mut counts)?;
+        tried(&mut shelf, stand, tally, random)?;
+    }
+    let [fixed, rotating] = counts;
+    let kinds = [fixed[0][0], fixed[0][1], fixed[1][1], rotating[0][0], rotating[0][1], rotating[1][1]];
+    match kinds.into_iter().min().filter(|&least| least > 0) {
+        Some(least) => Ok(least),
+        None => Err(format!("of the other count {counts:?} were tried, by layout, count and number")),
+    }
+}
+
 /// Tries the random shelves.
 pub fn group(seed: u64) -> Outcome {
     let random = &mut Random::new(seed, 6);
@@ -215,11 +260,13 @@ pub fn group(seed: u64) -> Outcome {
         }
         tried(&mut shelf, &mut stand, &mut tally, random)?;
     }
+    let miscounted = all_told_apart(&mut stand, &mut tally, random)?;
     let least = tally.complete()?;
     stand.seen.complete(1)?;
     Ok(format!(
-        "{} calls on {SHELVES} shelves of both layouts, sound, damaged and nonsense; in each layout each call with \
-         each fault of rows 1 to 3 alone, {least} times at least; seed {seed}",
+        "{} calls on {SHELVES} shelves of both layouts and both counts of parities, sound, damaged and nonsense; in \
+         each layout and with each count each call with each fault of rows 1 to 3 alone, {least} times at least; \
+         {MISCOUNTED} that name the other count, 1 and 2 {miscounted} times at least; seed {seed}",
         stand.calls
     ))
 }

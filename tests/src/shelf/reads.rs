@@ -16,13 +16,13 @@ fn overwritten(shelf: &Shelf, random: &mut Random) -> Shelf {
     other
 }
 
-/// Whether the numbers of a plain and of a recovering read go together, and the data where both give it: where the plain
-/// one is accepted, so is the other, with the same bytes; 16 is given where the other is accepted or withheld; any other
-/// number is that of both.
-fn agree((plain, data): &(usize, Vec<u8>), (recovering, fetched): &(usize, Vec<u8>)) -> bool {
+/// Whether the numbers of a plain and of a recovering read go together, and the data where both give it: where the
+/// plain one is accepted, so is the other, with the same bytes; 16 is given where the other is accepted or, with two
+/// parities, withheld; any other number is that of both.
+fn agree(parities: usize, (plain, data): &(usize, Vec<u8>), (recovering, fetched): &(usize, Vec<u8>)) -> bool {
     match plain {
         0 => *recovering == 0 && data == fetched,
-        16 => [0, 14].contains(recovering),
+        16 => *recovering == 0 || *recovering == 14 && parities == 2,
         _ => recovering == plain,
     }
 }
@@ -36,7 +36,7 @@ pub fn compare(call: Call, shelf: &Shelf, stand: &mut Stand, random: &mut Random
     };
     let plain = stand.read(call, shelf)?;
     let recovering = stand.read(fetch(address, count), shelf)?;
-    if !agree(&plain, &recovering) {
+    if !agree(shelf.record.measures.parities, &plain, &recovering) {
         let numbers = [plain.0, recovering.0];
         return Err(format!("{call:?} and a fetch answer {numbers:?}, or give other data; the shelf: {shelf}"));
     }

@@ -1,7 +1,8 @@
-//! Rebuilds one after another on a shelf of two stripes, by hand: where parity rotates and where it is fixed, the mode,
-//! the count of listed blocks and next after each, and what the calls after it get and do. The model is not asked.
+//! Rebuilds one after another on a shelf of two stripes, by hand: where parity rotates and where it is fixed, and with
+//! one parity that rotates, the mode, the count of listed blocks and next after each, and what the calls after it get
+//! and do. The model is not asked.
 
-use super::calls::{write, Call};
+use super::calls::{write, Call, Measures};
 use super::model::NONE as N;
 use super::script::Left::{Array, List, Log, Stripe};
 use super::script::{Script, Step};
@@ -153,6 +154,76 @@ const FIXED_TRANSITIONAL: [Step; 5] = [
     (Call::Rebuild, &[], [0, 0, 0, 0], &[], &[Array(&[1, 24, 30, 5, 3, 6, 28, 27, 49, 10]), List(&[])]),
 ];
 
+/// With one parity that rotates, stripe 0 has its data on members 0 to 2 and P on member 3; stripe 1 has data index 0 on
+/// member 3, the others on members 0 and 1, and P on member 2; the log is member 4. With members 0 and 1 no parity is
+/// lost, and list and mode remain. With member 2 only stripe 1 is made, which is not stale; with member 3 the list ends
+/// empty, and mode 1 remains.
+const ONE_PARITY: [Step; 20] = [
+    (write(0, 6), &[1, 2, 3, 4, 5, 6], [0, 0, 0, 0], &[], &[Array(&[1, 5, 2, 6, 3, 7, 0, 4])]),
+    (Call::Fail(1), &[], [0, 0, 0, 0], &[1], &[]),
+    (Call::Fail(0), &[], [11, 0, 0, 0], &[1], &[]),
+    (Call::Rebuild, &[], [0, 0, 0, 0], &[], &[Array(&[1, 5, 2, 6, 3, 7, 0, 4])]),
+    (Call::Start, &[], [0, 1, 0, 0], &[], &[]),
+    (Call::Fail(3), &[], [0, 1, 0, 0], &[3], &[]),
+    (Call::Rebuild, &[], [0, 1, 0, 0], &[], &[Array(&[1, 5, 2, 6, 3, 7, 0, 4])]),
+    (
+        write(1, 1),
+        &[21],
+        [0, 1, 1, 2],
+        &[],
+        &[Array(&[1, 5, 21, 6, 3, 7, 0, 4]), Log(&[2, 21, 0, 0]), List(&[N, 0, 1, 0, 1, N])],
+    ),
+    (Call::Fail(0), &[], [0, 1, 1, 2], &[0], &[]),
+    (Call::Rebuild, &[], [0, 1, 1, 2], &[], &[Array(&[1, 5, 21, 6, 3, 7, 0, 4])]),
+    (Call::Fail(1), &[], [0, 1, 1, 2], &[1], &[]),
+    (Call::Rebuild, &[], [0, 1, 1, 2], &[], &[Array(&[1, 5, 21, 6, 3, 7, 0, 4])]),
+    (Call::Fail(2), &[], [0, 1, 1, 2], &[2], &[]),
+    (Call::Rebuild, &[], [0, 1, 1, 2], &[], &[Array(&[1, 5, 21, 6, 3, 7, 0, 4])]),
+    (Call::Fail(3), &[], [0, 1, 1, 2], &[3], &[]),
+    (Call::Rebuild, &[], [0, 1, 0, 0], &[], &[Array(&[1, 5, 21, 6, 3, 7, 23, 4]), List(&[])]),
+    (Call::Start, &[], [7, 1, 0, 0], &[], &[]),
+    (
+        write(1, 1),
+        &[30],
+        [0, 1, 1, 2],
+        &[],
+        &[Array(&[1, 5, 30, 6, 3, 7, 23, 4]), Log(&[21, 30, 0, 0]), List(&[N, 0, 1, 0, 1, N])],
+    ),
+    (
+        write(3, 1),
+        &[24],
+        [0, 1, 2, 4],
+        &[],
+        &[Array(&[1, 5, 30, 6, 3, 7, 23, 24]), Log(&[21, 30, 4, 24]), List(&[N, 0, 1, 0, 1, 1, 3, 2, 3, N])],
+    ),
+    (
+        Call::Resync,
+        &[],
+        [0, 2, 1, 4],
+        &[],
+        &[Array(&[1, 5, 30, 6, 3, 7, 28, 24]), List(&[N, 0, 3, 2, 3, N]), Stripe(0)],
+    ),
+];
+
+/// Then member 3 is rebuilt, which has block 3, and mode 2 remains; with member 2, which has P of stripe 1, the list
+/// ends empty, and mode 2 becomes 0.
+const ONE_PARITY_ENDS: [Step; 4] = [
+    (Call::Fail(3), &[], [0, 2, 1, 4], &[3], &[]),
+    (Call::Rebuild, &[], [0, 2, 1, 4], &[], &[Array(&[1, 5, 30, 6, 3, 7, 28, 24])]),
+    (Call::Fail(2), &[], [0, 2, 1, 4], &[2], &[]),
+    (Call::Rebuild, &[], [0, 0, 0, 0], &[], &[Array(&[1, 5, 30, 6, 3, 27, 28, 24]), List(&[])]),
+];
+
+/// Or the log fails: no member may besides, a rebuild gets 12, and a resync ends mode 2.
+const ONE_PARITY_WITHOUT_LOG: [Step; 6] = [
+    (Call::Fail(4), &[], [0, 2, 1, 4], &[4], &[]),
+    (Call::Fail(1), &[], [11, 2, 1, 4], &[4], &[]),
+    (Call::Rebuild, &[], [12, 2, 1, 4], &[4], &[]),
+    (Call::NewLog, &[], [13, 2, 1, 4], &[4], &[]),
+    (Call::Resync, &[], [0, 0, 0, 0], &[4], &[Array(&[1, 5, 30, 6, 3, 27, 28, 24]), List(&[]), Stripe(1)]),
+    (Call::NewLog, &[], [0, 0, 0, 0], &[], &[]),
+];
+
 /// Plays the scripts.
 pub fn group(_seed: u64) -> Outcome {
     let stand = &mut Stand::default();
@@ -166,5 +237,12 @@ pub fn group(_seed: u64) -> Outcome {
     }
     let fixed = [&FIXED[..], &FIXED_TRANSITIONAL, &NORMAL].concat();
     Script::fresh(3, 2, 1, [4, 2, 4], stand)?.play(&fixed, stand)?;
-    Ok(format!("in every mode and both layouts, and what the calls after them do; {} calls by hand", stand.calls))
+    for ending in [&ONE_PARITY_ENDS[..], &ONE_PARITY_WITHOUT_LOG] {
+        let measures = Measures { d: 3, s: 2, b: 1, l: 4, h: 2, e: 4, layout: 1, parities: 1 };
+        Script::of(measures, stand)?.play(&[&ONE_PARITY[..], ending, &NORMAL].concat(), stand)?;
+    }
+    Ok(format!(
+        "in every mode and both layouts, with one parity too, and what the calls after them do; {} calls by hand",
+        stand.calls
+    ))
 }

@@ -2,7 +2,7 @@
 
 use super::calls::{Measures, Record};
 use super::lists::{one_of, pick};
-use super::model::{self, Fault, OF_MEASURES, RANGES};
+use super::model::{self, failures, Fault, OF_MEASURES, RANGES};
 use crate::random::Random;
 
 /// Random measures of a small shelf, within the ranges.
@@ -16,6 +16,7 @@ pub fn measures(random: &mut Random) -> Measures {
         h: 1 + pick(5, random),
         e: 1 + pick(16, random),
         layout: pick(2, random),
+        parities: 1 + pick(2, random),
     }
 }
 
@@ -47,7 +48,7 @@ fn set_flags(r: &mut Record, count: usize, members: &[usize], random: &mut Rando
 
 /// The members of which a flag may be set in the record's mode; the log, if it may, thrice.
 fn members(r: &Record) -> Vec<usize> {
-    let log = r.measures.d + 2;
+    let log = r.measures.log();
     let logs = if r.mode == 1 { 0 } else { 3 };
     (0..log).chain([log; 3].into_iter().take(logs)).collect()
 }
@@ -62,7 +63,7 @@ pub fn valid(m: Measures, random: &mut Random) -> Record {
     };
     let next = if listed == 0 { 0 } else { 1 + pick(m.l, random) };
     let mut record = Record { measures: m, mode, next, listed, failed: [0; 19] };
-    let count = pick(6, random).saturating_sub(2).min(2);
+    let count = pick(6, random).saturating_sub(2).min(m.parities);
     let members = members(&record);
     set_flags(&mut record, count, &members, random);
     record
@@ -70,24 +71,24 @@ pub fn valid(m: Measures, random: &mut Random) -> Record {
 
 /// Puts a value in the place of a measure.
 pub fn put_measure(m: &mut Measures, at: usize, value: usize) {
-    *[&mut m.d, &mut m.s, &mut m.b, &mut m.l, &mut m.h, &mut m.e, &mut m.layout][at] = value;
+    *[&mut m.d, &mut m.s, &mut m.b, &mut m.l, &mut m.h, &mut m.e, &mut m.layout, &mut m.parities][at] = value;
 }
 
 /// Damages a valid record so that the fault applies, if possible alone; none where this record does not allow it.
 pub fn damage(fault: Fault, r: &mut Record, random: &mut Random) -> Option<()> {
-    if let Some(at) = OF_MEASURES.iter().position(|&other| other == fault) {
-        let (low, high) = RANGES[at / 2];
-        let value = if at % 2 == 0 { above(high, random) } else { pick(low, random) };
-        put_measure(&mut r.measures, at / 2, value);
+    if let Some(index) = OF_MEASURES.iter().position(|&other| other == fault) {
+        let (at, is_high) = model::side(index);
+        let (low, high) = RANGES[at];
+        let value = if is_high { above(high, random) } else { pick(low, random) };
+        put_measure(&mut r.measures, at, value);
         return Some(());
     }
-    let (log, listed) = (r.measures.d + 2, r.listed > 0);
-    let flags = r.failed.iter().filter(|&&flag| flag != 0).count();
+    let (log, limit, listed) = (r.measures.log(), r.measures.parities, r.listed > 0);
     let applies = match fault {
-        Fault::FlagAboveLog => log < 18 && flags < 2,
+        Fault::FlagAboveLog => log < 18 && failures(r) < limit,
         Fault::NextAboveL | Fault::NormalWithListed => listed,
         Fault::NextWithoutListed | Fault::TransitionalWithoutListed => !listed,
-        Fault::AcceleratingWithoutLog => r.mode == 1 && flags < 2,
+        Fault::AcceleratingWithoutLog => r.mode == 1 && failures(r) < limit,
         Fault::ListedAboveE => r.mode != 0,
         _ => true,
     };
@@ -95,7 +96,7 @@ pub fn damage(fault: Fault, r: &mut Record, random: &mut Random) -> Option<()> {
         _ if !applies => return None,
         Fault::ModeAbove2 => r.mode = above(2, random),
         Fault::FlagAboveLog => r.failed[log + 1 + pick(18 - log, random)] = 1,
-        Fault::ThreeFlags => set_flags(r, 3 + pick(3, random), &members(r), random),
+        Fault::TooManyFlags => set_flags(r, limit + 1 + pick(3, random), &members(r), random),
         Fault::NextAboveL => r.next = above(r.measures.l, random),
         Fault::ListedAboveE => r.listed = above(r.measures.e, random),
         Fault::NextWithoutListed => r.next = 1 + pick(r.measures.l, random),
@@ -104,7 +105,7 @@ pub fn damage(fault: Fault, r: &mut Record, random: &mut Random) -> Option<()> {
         Fault::AcceleratingWithoutLog => r.failed[log] = 1,
         _ => return None,
     }
-    (fault != Fault::ThreeFlags || r.failed.iter().filter(|&&flag| flag != 0).count() > 2).then_some(())
+    (fault != Fault::TooManyFlags || failures(r) > limit).then_some(())
 }
 
 /// Makes some measures, and sometimes the other numbers, anything.

@@ -1,5 +1,6 @@
 //! Rebuilds where parity rotates, by hand: which stripes have their parity made and their listed blocks dropped, which
-//! bytes and entries stay, and the mode after it. Beside it the same calls where parity is fixed.
+//! bytes and entries stay, and the mode after it. Beside it the same calls where parity is fixed; and both with one
+//! parity.
 
 use super::calls::{fetch, write, Buffer, Call, Measures};
 use super::layout::List as Words;
@@ -8,23 +9,31 @@ use super::pair::Pair;
 use super::stand::Stand;
 use crate::Outcome;
 
-/// The shelf: three data disks, five stripes of blocks of one byte. Where parity rotates, its blocks stand so:
+/// The shelf: three data disks, five stripes of blocks of one byte. Where parity rotates, its blocks stand so, with two
+/// parities and with one:
 ///
 /// ```text
-/// stripe     0   1   2   3   4
-/// member 0   Q   0   1   2   P
-/// member 1   0   1   2   P   Q
-/// member 2   1   2   P   Q   0
-/// member 3   2   P   Q   0   1
+/// stripe     0   1   2   3   4     0   1   2   3   4
+/// member 0   Q   0   1   2   P     0   1   2   P   0
+/// member 1   0   1   2   P   Q     1   2   P   0   1
+/// member 2   1   2   P   Q   0     2   P   0   1   2
+/// member 3   2   P   Q   0   1     P   0   1   2   P
 /// member 4   P   Q   0   1   2
 /// ```
-const fn measures(layout: usize) -> Measures {
-    Measures { d: 3, s: 5, b: 1, l: 12, h: 2, e: 8, layout }
+const fn measures([layout, parities]: Kind) -> Measures {
+    Measures { d: 3, s: 5, b: 1, l: 12, h: 2, e: 8, layout, parities }
 }
 
-/// The log of that shelf, and the two stripes in which each member has P or Q where parity rotates.
+/// A layout and a count of parities.
+type Kind = [usize; 2];
+
+/// The log of that shelf with two parities, and the two stripes in which each member has P or Q where they rotate.
 const LOG: usize = 5;
-const PARITY_OF: [[usize; 2]; 5] = [[0, 4], [3, 4], [2, 3], [1, 2], [0, 1]];
+const PARITY_OF: [&[usize]; 5] = [&[0, 4], &[3, 4], &[2, 3], &[1, 2], &[0, 1]];
+
+/// The same with one parity: the stripes in which each member has P.
+const LOG_OF_ONE: usize = 4;
+const P_OF: [&[usize]; 4] = [&[3], &[2], &[1], &[0, 4]];
 
 /// What is written first, in mode 0: the blocks 1 to 15, three a stripe.
 const FIRST: [u8; 15] = [1, 2, 3, 4, 5, 6, 7, 8, 9, 10, 11, 12, 13, 14, 15];
@@ -59,6 +68,20 @@ const BYTES: [[[[u8; 5]; 5]; 3]; 2] = [
         [[9, 1, 2, 3, 0], [4, 5, 6, 7, 22], [8, 9, 6, 51, 7], [12, 13, 44, 10, 11], [12, 45, 13, 14, 15]],
         [[9, 1, 21, 3, 0], [24, 5, 6, 7, 22], [8, 9, 6, 51, 27], [12, 13, 44, 30, 11], [12, 45, 33, 36, 15]],
         [[39, 1, 21, 3, 23], [24, 5, 6, 27, 10], [8, 9, 26, 47, 27], [12, 25, 56, 30, 11], [10, 85, 33, 36, 15]],
+    ],
+];
+
+/// The same with one parity.
+const BYTES_OF_ONE: [[[[u8; 4]; 5]; 3]; 2] = [
+    [
+        [[1, 2, 3, 0], [4, 5, 6, 7], [7, 8, 9, 6], [10, 11, 12, 13], [13, 14, 15, 12]],
+        [[1, 21, 3, 0], [24, 5, 6, 7], [27, 8, 9, 6], [30, 11, 12, 13], [33, 36, 15, 12]],
+        [[1, 21, 3, 23], [24, 5, 6, 27], [27, 8, 9, 26], [30, 11, 12, 25], [33, 36, 15, 10]],
+    ],
+    [
+        [[1, 2, 3, 0], [5, 6, 7, 4], [9, 6, 7, 8], [13, 10, 11, 12], [13, 14, 15, 12]],
+        [[1, 21, 3, 0], [5, 6, 7, 24], [9, 6, 27, 8], [13, 30, 11, 12], [33, 36, 15, 12]],
+        [[1, 21, 3, 23], [5, 6, 27, 24], [9, 26, 27, 8], [25, 30, 11, 12], [33, 36, 15, 10]],
     ],
 ];
 
@@ -157,6 +180,71 @@ const FIXED: [Case; 15] = [
     (2, ALL, &[4], [0, 0, 0], &[], [M, M, M, M, M]),
 ];
 
+/// With one parity that rotates. Member 3 has P of stripes 0 and 4, and data of the others: nothing is stale; one
+/// stripe is: where it has P, where its block has a Cur, where it is unlisted. In stripe 4 members 2 and 0 have the
+/// blocks with an Ori only and with a Cur only. All are, and each member fails in turn.
+const ONE_PARITY: [Case; 14] = [
+    (0, &[], &[3], [0, 0, 0], &[], [F, F, F, F, F]),
+    (1, &[], &[3], [0, 1, 0], &[], [F, F, F, F, F]),
+    (1, &[0], &[3], [0, 1, 0], &[], [M, F, F, F, F]),
+    (1, &[1], &[3], [0, 1, 2], &[[3, 0, 1]], [F, S, F, F, F]),
+    (1, &[2], &[3], [0, 1, 2], &[[6, 0, 1]], [F, F, S, F, F]),
+    (1, &[4], &[3], [0, 1, 0], &[], [F, F, F, F, M]),
+    (1, &[4], &[2], [0, 1, 3], &[[12, N, 1], [13, N, 2], [14, 0, N]], [F, F, F, F, S]),
+    (1, &[4], &[0], [0, 1, 3], &[[12, N, 1], [13, N, 2], [14, 0, N]], [F, F, F, F, S]),
+    (1, &[3, 0], &[0], [0, 1, 4], &[[1, 2, 3]], [S, F, F, M, F]),
+    (1, ALL, &[3], [0, 1, 11], &[[3, 2, 3], [6, 4, 5], [9, 6, 7]], [M, S, S, S, M]),
+    (
+        1,
+        ALL,
+        &[2],
+        [0, 1, 11],
+        &[[1, 0, 1], [6, 4, 5], [9, 6, 7], [12, N, 9], [13, N, 10], [14, 8, N]],
+        [S, M, S, S, S],
+    ),
+    (
+        1,
+        ALL,
+        &[1],
+        [0, 1, 11],
+        &[[1, 0, 1], [3, 2, 3], [9, 6, 7], [12, N, 9], [13, N, 10], [14, 8, N]],
+        [S, S, M, S, S],
+    ),
+    (
+        1,
+        ALL,
+        &[0],
+        [0, 1, 11],
+        &[[1, 0, 1], [3, 2, 3], [6, 4, 5], [12, N, 9], [13, N, 10], [14, 8, N]],
+        [S, S, S, M, S],
+    ),
+    (1, &[0, 4], &[3], [0, 1, 0], &[], [M, F, F, F, M]),
+];
+
+/// The same in mode 2; and where the log has failed, with which nothing of the array may: a rebuild gets 12.
+const ONE_PARITY_ENDS: [Case; 7] = [
+    (2, ALL, &[3], [0, 2, 11], &[[3, 2, 3], [6, 4, 5], [9, 6, 7]], [M, S, S, S, M]),
+    (2, &[0, 1], &[3], [0, 2, 4], &[[3, 2, 3]], [M, S, F, F, F]),
+    (2, &[0, 1], &[2], [0, 0, 0], &[], [M, M, F, F, F]),
+    (2, &[0, 4], &[3], [0, 0, 0], &[], [M, F, F, F, M]),
+    (0, &[], &[LOG_OF_ONE], [12, 0, 0], &[], [F, F, F, F, F]),
+    (1, &[2], &[LOG_OF_ONE], [12, 2, 2], &[[6, 0, 1]], [F, F, S, F, F]),
+    (2, ALL, &[LOG_OF_ONE], [12, 2, 11], FROM_1, [M, S, S, S, S]),
+];
+
+/// With one parity that is fixed, P is on member 3.
+const ONE_PARITY_FIXED: [Case; 9] = [
+    (0, &[], &[3], [0, 0, 0], &[], [F, F, F, F, F]),
+    (1, &[], &[0], [0, 1, 0], &[], [F, F, F, F, F]),
+    (1, &[], &[3], [0, 1, 0], &[], [F, F, F, F, F]),
+    (1, ALL, &[3], [0, 1, 0], &[], [M, M, M, M, M]),
+    (1, ALL, &[0], [0, 1, 11], FROM_0, [S, S, S, S, S]),
+    (1, ALL, &[1], [0, 1, 11], FROM_0, [S, S, S, S, S]),
+    (1, ALL, &[2], [0, 1, 11], FROM_0, [S, S, S, S, S]),
+    (2, ALL, &[1], [0, 2, 11], FROM_1, [M, S, S, S, S]),
+    (2, ALL, &[3], [0, 0, 0], &[], [M, M, M, M, M]),
+];
+
 /// Makes a call that must be accepted.
 fn accepted(pair: &mut Pair, call: Call, data: &[u8], stand: &mut Stand) -> Result<(), String> {
     match pair.step(call, Buffer::of(data.to_vec()), stand)? {
@@ -165,9 +253,9 @@ fn accepted(pair: &mut Pair, call: Call, data: &[u8], stand: &mut Stand) -> Resu
     }
 }
 
-/// A shelf of this layout in this mode, with these stripes made stale one after another.
-fn reached(layout: usize, mode: usize, stale: &[usize], stand: &mut Stand) -> Result<Pair, String> {
-    let mut pair = Pair::fresh(measures(layout), 99, stand)?;
+/// A shelf of this kind in this mode, with these stripes made stale one after another.
+fn reached(kind: Kind, mode: usize, stale: &[usize], stand: &mut Stand) -> Result<Pair, String> {
+    let mut pair = Pair::fresh(measures(kind), 99, stand)?;
     accepted(&mut pair, write(0, FIRST.len()), &FIRST, stand)?;
     if mode > 0 {
         accepted(&mut pair, Call::Start, &[], stand)?;
@@ -192,9 +280,13 @@ fn fail(pair: &mut Pair, members: &[usize], stand: &mut Stand) -> Result<(), Str
 /// Fails unless the members that are sound hold the bytes of these stripes.
 fn holds(pair: &Pair, stripes: &[Stripe; 5]) -> Result<(), String> {
     let r = &pair.shelf.record;
+    let Measures { layout, parities, .. } = r.measures;
     for (stripe, &state) in stripes.iter().enumerate() {
-        let due = BYTES[r.measures.layout][state as usize][stripe];
-        for member in (0..5).filter(|&member| r.failed[member] == 0) {
+        let due = match parities {
+            1 => &BYTES_OF_ONE[layout][state as usize][stripe][..],
+            _ => &BYTES[layout][state as usize][stripe],
+        };
+        for member in (0..due.len()).filter(|&member| r.failed[member] == 0) {
             let found = pair.stored(member, stripe)[0];
             if found != due[member] {
                 return Err(format!(
@@ -208,10 +300,11 @@ fn holds(pair: &Pair, stripes: &[Stripe; 5]) -> Result<(), String> {
 }
 
 /// Fails unless fetch gives each block as last written with any further members failed and overwritten, two in all with
-/// the log. Where the log failed nothing may be stale.
+/// the log, or one. Where the log failed nothing may be stale.
 fn serves(pair: &Pair, stand: &mut Stand) -> Result<(), String> {
-    let without_log = pair.shelf.record.failed[LOG] != 0;
-    for (x, y) in (0..5).flat_map(|x| (x..5).map(move |y| (x, y))).filter(|&(x, y)| x == y || !without_log) {
+    let log = pair.shelf.record.measures.log();
+    let is_one = log == LOG_OF_ONE || pair.shelf.record.failed[log] != 0;
+    for (x, y) in (0..log).flat_map(|x| (x..log).map(move |y| (x, y))).filter(|&(x, y)| x == y || !is_one) {
         let mut pair = pair.clone();
         fail(&mut pair, &[x, y][..if x == y { 1 } else { 2 }], stand)?;
         for address in 0..15 {
@@ -224,10 +317,10 @@ fn serves(pair: &Pair, stand: &mut Stand) -> Result<(), String> {
     Ok(())
 }
 
-/// Makes a rebuild of a case in this layout; fails unless it leaves what is due.
-fn rebuilt(layout: usize, case: &Case, stand: &mut Stand) -> Result<(), String> {
+/// Makes a rebuild of a case on a shelf of this kind; fails unless it leaves what is due.
+fn rebuilt(kind: Kind, case: &Case, stand: &mut Stand) -> Result<(), String> {
     let &(mode, stale, failed, [code, mode_after, next], listed, stripes) = case;
-    let mut pair = reached(layout, mode, stale, stand)?;
+    let mut pair = reached(kind, mode, stale, stand)?;
     fail(&mut pair, failed, stand)?;
     let found = pair.step(Call::Rebuild, Buffer::empty(), stand)?;
     let r = pair.shelf.record;
@@ -245,25 +338,32 @@ fn rebuilt(layout: usize, case: &Case, stand: &mut Stand) -> Result<(), String> 
 }
 
 /// Makes the rebuilds of some cases.
-fn all_rebuilt(layout: usize, cases: &[Case], stand: &mut Stand) -> Result<usize, String> {
+fn all_rebuilt(kind: Kind, cases: &[Case], stand: &mut Stand) -> Result<usize, String> {
     for case in cases {
-        let fault =
-            |fault| format!("layout {layout}, mode {}, stale {:?}, failed {:?}: {fault}", case.0, case.1, case.2);
-        rebuilt(layout, case, stand).map_err(fault)?;
+        let [layout, parities] = kind;
+        let of = format!("layout {layout}, parities {parities}, mode {}", case.0);
+        let fault = |fault| format!("{of}, stale {:?}, failed {:?}: {fault}", case.1, case.2);
+        rebuilt(kind, case, stand).map_err(fault)?;
     }
     Ok(cases.len())
 }
 
-/// The sets of one or two failed members with a member of the array among them.
-fn failed_sets() -> Vec<Vec<usize>> {
-    let pairs = (0..5).flat_map(|x| (x + 1..=LOG).map(move |y| vec![x, y]));
-    (0..5).map(|x| vec![x]).chain(pairs).collect()
+/// The sets of as many failed members as may be, or fewer, with a member of the array among them.
+fn failed_sets(parities: usize) -> Vec<Vec<usize>> {
+    match parities {
+        1 => (0..LOG_OF_ONE).map(|x| vec![x]).collect(),
+        _ => {
+            let pairs = (0..LOG).flat_map(|x| (x + 1..=LOG).map(move |y| vec![x, y]));
+            (0..LOG).map(|x| vec![x]).chain(pairs).collect()
+        }
+    }
 }
 
 /// The number that a rebuild gets, and the stripes that are stale after it: not those of which a failed member had P or
 /// Q; but all are, and 14 is given, where the log failed and another one is stale.
-fn left(stale: &[usize], failed: &[usize]) -> (usize, Vec<usize>) {
-    let has_parity = |stripe: usize| failed.iter().any(|&member| member != LOG && PARITY_OF[member].contains(&stripe));
+fn left(parities: usize, stale: &[usize], failed: &[usize]) -> (usize, Vec<usize>) {
+    let of = if parities == 1 { &P_OF[..] } else { &PARITY_OF };
+    let has_parity = |stripe: usize| failed.iter().filter_map(|&member| of.get(member)).any(|of| of.contains(&stripe));
     let left: Vec<usize> = stale.iter().copied().filter(|&stripe| !has_parity(stripe)).collect();
     match failed.contains(&LOG) && !left.is_empty() {
         true => (14, stale.to_vec()),
@@ -271,12 +371,12 @@ fn left(stale: &[usize], failed: &[usize]) -> (usize, Vec<usize>) {
     }
 }
 
-/// Rebuilds the shelf in mode 1 with these stripes stale and these members failed; fails unless those stripes are left
-/// stale which must be, with all that is listed of them, and each other one has the parity of its data. The mode is 1
-/// then, or where the log failed 2 if a stripe is left and 0 if none is.
-fn rebuilt_by_parity(stale: &[usize], failed: &[usize], stand: &mut Stand) -> Result<(), String> {
-    let (code, left) = left(stale, failed);
-    let mut pair = reached(1, 1, stale, stand)?;
+/// Rebuilds the shelf with so many parities in mode 1 with these stripes stale and these members failed; fails unless
+/// those stripes are left stale which must be, with all that is listed of them, and each other one has the parity of
+/// its data. The mode is 1 then, or where the log failed 2 if a stripe is left and 0 if none is.
+fn rebuilt_by_parity(parities: usize, stale: &[usize], failed: &[usize], stand: &mut Stand) -> Result<(), String> {
+    let (code, left) = left(parities, stale, failed);
+    let mut pair = reached([1, parities], 1, stale, stand)?;
     fail(&mut pair, failed, stand)?;
     let found = pair.step(Call::Rebuild, Buffer::empty(), stand)?;
     let mode = match (failed.contains(&LOG), left.is_empty()) {
@@ -304,12 +404,12 @@ fn rebuilt_by_parity(stale: &[usize], failed: &[usize], stand: &mut Stand) -> Re
 }
 
 /// Makes such rebuilds with every set of stale stripes and every set of failed members. Hands back how many.
-fn every_rebuild(stand: &mut Stand) -> Result<usize, String> {
-    let sets = failed_sets();
+fn every_rebuild(parities: usize, stand: &mut Stand) -> Result<usize, String> {
+    let sets = failed_sets(parities);
     for (set, failed) in (0..32).flat_map(|set| sets.iter().map(move |failed| (set, failed))) {
         let stale: Vec<usize> = (0..5).filter(|stripe| set >> stripe & 1 == 1).collect();
-        rebuilt_by_parity(&stale, failed, stand)
-            .map_err(|fault| format!("stale {stale:?}, failed {failed:?}: {fault}"))?;
+        rebuilt_by_parity(parities, &stale, failed, stand)
+            .map_err(|fault| format!("parities {parities}, stale {stale:?}, failed {failed:?}: {fault}"))?;
     }
     Ok(32 * sets.len())
 }
@@ -317,13 +417,16 @@ fn every_rebuild(stand: &mut Stand) -> Result<usize, String> {
 /// Makes the rebuilds.
 pub fn group(_seed: u64) -> Outcome {
     let stand = &mut Stand::default();
-    let mut cases = all_rebuilt(0, &FIXED, stand)?;
+    let mut cases = all_rebuilt([0, 2], &FIXED, stand)?;
     for rotating in [&ONE_FAILS[..], &TRANSITIONAL, &TWO_FAIL, &LOG_FAILS] {
-        cases += all_rebuilt(1, rotating, stand)?;
+        cases += all_rebuilt([1, 2], rotating, stand)?;
     }
-    let every = every_rebuild(stand)?;
+    let mut of_one = all_rebuilt([0, 1], &ONE_PARITY_FIXED, stand)?;
+    of_one += all_rebuilt([1, 1], &ONE_PARITY, stand)? + all_rebuilt([1, 1], &ONE_PARITY_ENDS, stand)?;
+    let (every, every_of_one) = (every_rebuild(2, stand)?, every_rebuild(1, stand)?);
     Ok(format!(
-        "{cases} rebuilds by hand, {every} with every set of stale stripes and of failed members; {} calls",
+        "{cases} rebuilds by hand and {of_one} with one parity, {every} and {every_of_one} with every set of stale \
+         stripes and of failed members; {} calls",
         stand.calls
     ))
 }

@@ -1,5 +1,6 @@
-//! Where the blocks of a stripe stand where parity rotates, by rows of members worked out by hand; which plain reads they
-//! refuse with a member failed; a shelf beside its twin whose parity is fixed; and layouts that are neither.
+//! Where the blocks of a stripe stand where parity rotates, by rows of members worked out by hand, with P and Q and
+//! with P alone; which plain reads they refuse with a member failed; a shelf beside its twin whose parity is fixed; and
+//! layouts and counts of parities that are neither.
 
 use super::book::Book;
 use super::calls::{fetch, read, write, Buffer, Call, Measures, Shelf};
@@ -44,13 +45,29 @@ const OF_FIVE: [[usize; 7]; 15] = [
     [1, 2, 3, 4, 5, 6, 0],
 ];
 
-/// How many pairs of twins are tried for each table: so many with all its stripes and as many with
-/// one; and the calls of a pair.
-const PAIRS: usize = 100;
+/// The members that have data 0, data 1 and P, without Q, on a shelf of two data disks.
+const OF_TWO_WITHOUT_Q: [[usize; 3]; 7] = [[0, 1, 2], [2, 0, 1], [1, 2, 0], [0, 1, 2], [2, 0, 1], [1, 2, 0], [0, 1, 2]];
+
+/// The same of data 0 to 2 and P on a shelf of three data disks.
+const OF_THREE_WITHOUT_Q: [[usize; 4]; 9] = [
+    [0, 1, 2, 3],
+    [3, 0, 1, 2],
+    [2, 3, 0, 1],
+    [1, 2, 3, 0],
+    [0, 1, 2, 3],
+    [3, 0, 1, 2],
+    [2, 3, 0, 1],
+    [1, 2, 3, 0],
+    [0, 1, 2, 3],
+];
+
+/// How many pairs of twins are tried for each table: so many with all its stripes and as many with one; and the calls
+/// of a pair.
+const PAIRS: usize = 80;
 const CALLS: usize = 60;
 
 /// How many rebuilds twins of one stripe must come through.
-const REBUILDS: usize = 100;
+const REBUILDS: usize = 60;
 
 /// Layouts that are neither fixed nor rotating: next to these, ones that 8, 16, 31, 32 or 63 bits take for them, and the
 /// greatest ones.
@@ -73,15 +90,35 @@ const NEITHER: [usize; 16] = [
     usize::MAX,
 ];
 
+/// Counts of parities that are neither, as the layouts.
+const NO_COUNT: [usize; 16] = [
+    0,
+    3,
+    4,
+    255,
+    256,
+    257,
+    258,
+    65537,
+    65538,
+    (1 << 31) + 1,
+    u32::MAX as usize,
+    (1 << 32) + 1,
+    (1 << 32) + 2,
+    (1 << 63) + 2,
+    usize::MAX - 1,
+    usize::MAX,
+];
+
 /// Measures of a small shelf.
-fn measures(d: usize, s: usize, layout: usize, random: &mut Random) -> Measures {
+fn measures([d, parities]: [usize; 2], s: usize, layout: usize, random: &mut Random) -> Measures {
     let (b, l, h, e) = (1 + pick(3, random), 1 + pick(6 * d, random), 1 + pick(4, random), 1 + pick(3 * d, random));
-    Measures { d, s, b, l, h, e, layout }
+    Measures { d, s, b, l, h, e, layout, parities }
 }
 
 /// Fails unless the model's walk and the book's distance from P both lead to the rows.
-fn known(d: usize, rows: &[&[usize]], random: &mut Random) -> Result<(), String> {
-    let m = measures(d, rows.len(), 1, random);
+fn known([d, parities]: [usize; 2], rows: &[&[usize]], random: &mut Random) -> Result<(), String> {
+    let m = measures([d, parities], rows.len(), 1, random);
     let book = Book::fresh(m);
     for (stripe, row) in rows.iter().enumerate() {
         let members = roles::members(m, stripe);
@@ -89,7 +126,7 @@ fn known(d: usize, rows: &[&[usize]], random: &mut Random) -> Result<(), String>
             return Err(format!("by the model {members:?} are the members of stripe {stripe}, not {row:?}"));
         }
         for (place, &member) in row.iter().enumerate() {
-            let (found, due) = (book.after_p(member, stripe), (place + 2) % (d + 2));
+            let (found, due) = (book.after_p(member, stripe), (place + parities) % row.len());
             if found != due {
                 return Err(format!("by the book member {member} of stripe {stripe} is {found} after P, not {due}"));
             }
@@ -115,14 +152,15 @@ fn read_by_rows(shelf: &mut Shelf, rows: &[&[usize]], written: &[u8], stand: &mu
     Ok(())
 }
 
-/// Makes these reads on a shelf of this layout with each pair of members failed, the log among them, where parity is not
-/// stale.
-fn plain_reads(layout: usize, rows: &[&[usize]], stand: &mut Stand, random: &mut Random) -> Result<(), String> {
-    let (d, s) = (rows[0].len() - 2, rows.len());
-    let mut pair = Pair::fresh(measures(d, s, layout, random), 99, stand)?;
-    let written = random.bytes(d * s * pair.shelf.record.measures.b);
-    pair.step(write(0, d * s), Buffer::of(written.clone()), stand)?;
-    for (x, y) in (0..d + 2).flat_map(|x| (x + 1..d + 3).map(move |y| (x, y))) {
+/// Makes these reads on a shelf of these measures with each pair of members failed, or each one where there is one
+/// parity, the log among them, where parity is not stale.
+fn plain_reads(m: Measures, rows: &[&[usize]], stand: &mut Stand, random: &mut Random) -> Result<(), String> {
+    let (blocks, log) = (m.d * rows.len(), rows[0].len());
+    let mut pair = Pair::fresh(m, 99, stand)?;
+    let written = random.bytes(blocks * m.b);
+    pair.step(write(0, blocks), Buffer::of(written.clone()), stand)?;
+    let failed = (0..=log).flat_map(|x| (x..=log).map(move |y| (x, y)));
+    for (x, y) in failed.filter(|(x, y)| (x == y) == (m.parities == 1)) {
         let mut shelf = pair.shelf.clone();
         (shelf.record.failed[x], shelf.record.failed[y]) = (1, 1);
         read_by_rows(&mut shelf, rows, &written, stand)?;
@@ -140,13 +178,7 @@ struct Twins<'a> {
 
 impl Twins<'_> {
     /// Fresh twins with as many stripes as there are rows.
-    fn fresh<'a>(
-        d: usize,
-        rows: &'a [&'a [usize]],
-        stand: &mut Stand,
-        random: &mut Random,
-    ) -> Result<Twins<'a>, String> {
-        let m = measures(d, rows.len(), 0, random);
+    fn fresh<'a>(m: Measures, rows: &'a [&'a [usize]], stand: &mut Stand) -> Result<Twins<'a>, String> {
         let fixed = Pair::fresh(m, 99, stand)?;
         let rotating = Pair::fresh(Measures { layout: 1, ..m }, 99, stand)?;
         Ok(Twins { rows, fixed, rotating })
@@ -172,8 +204,8 @@ impl Twins<'_> {
 
     /// Overwrites the failed members of both with the same bytes.
     fn spoil(&mut self, byte: u8) {
-        let Measures { d, b, .. } = self.fixed.shelf.record.measures;
-        for place in (0..d + 2).filter(|&place| self.fixed.shelf.record.failed[place] != 0) {
+        let b = self.fixed.shelf.record.measures.b;
+        for place in (0..self.rows[0].len()).filter(|&place| self.fixed.shelf.record.failed[place] != 0) {
             let byte = byte.wrapping_mul(37).wrapping_add(place as u8 + 1);
             self.fixed.shelf.array.bytes[place * b..][..b].fill(byte);
             self.rotating.shelf.array.bytes[self.rows[0][place] * b..][..b].fill(byte);
@@ -200,10 +232,10 @@ impl Twins<'_> {
 
 /// Makes random calls on twins: members fail only where there is one stripe. Hands back how many rebuilds were
 /// accepted.
-fn twins(d: usize, rows: &[&[usize]], stand: &mut Stand, random: &mut Random) -> Result<usize, String> {
-    let mut twins = Twins::fresh(d, rows, stand, random)?;
-    let data = random.bytes(d * rows.len() * twins.fixed.shelf.record.measures.b);
-    twins.step(write(0, d * rows.len()), Buffer::of(data), stand)?;
+fn twins(count: [usize; 2], rows: &[&[usize]], stand: &mut Stand, random: &mut Random) -> Result<usize, String> {
+    let m = measures(count, rows.len(), 0, random);
+    let mut twins = Twins::fresh(m, rows, stand)?;
+    twins.step(write(0, m.d * m.s), Buffer::of(random.bytes(m.d * m.s * m.b)), stand)?;
     let (is_busy, mut rebuilds) = (random.below(2) == 0, 0);
     for _ in 0..CALLS {
         let (call, data) = next_call(&twins.fixed.shelf, is_busy, random);
@@ -217,16 +249,17 @@ fn twins(d: usize, rows: &[&[usize]], stand: &mut Stand, random: &mut Random) ->
 
 /// Holds the rows of a table to the model, to the book, to plain reads with members failed, and to shelves beside their
 /// twins. The rows of the fixed layout are the members in order. Hands back how many rebuilds the twins of one stripe
-/// came through.
-fn table(d: usize, rows: &[&[usize]], stand: &mut Stand, random: &mut Random) -> Result<usize, String> {
-    known(d, rows, random)?;
-    let in_order: Vec<usize> = (0..d + 2).collect();
-    plain_reads(0, &vec![&in_order[..]; rows.len()], stand, random)?;
-    plain_reads(1, rows, stand, random)?;
+/// came through. The count is that of the data disks and that of the parities.
+fn table(count: [usize; 2], rows: &[&[usize]], stand: &mut Stand, random: &mut Random) -> Result<usize, String> {
+    known(count, rows, random)?;
+    let in_order: Vec<usize> = (0..rows[0].len()).collect();
+    for (layout, rows) in [(0, &vec![&in_order[..]; rows.len()][..]), (1, rows)] {
+        plain_reads(measures(count, rows.len(), layout, random), rows, stand, random)?;
+    }
     let mut rebuilds = 0;
     for _ in 0..PAIRS {
-        twins(d, rows, stand, random)?;
-        rebuilds += twins(d, &rows[..1], stand, random)?;
+        twins(count, rows, stand, random)?;
+        rebuilds += twins(count, &rows[..1], stand, random)?;
     }
     match rebuilds >= REBUILDS {
         true => Ok(rebuilds),
@@ -234,10 +267,10 @@ fn table(d: usize, rows: &[&[usize]], stand: &mut Stand, random: &mut Random) ->
     }
 }
 
-/// Shelves of two stripes, with the calls that are accepted: a fresh one, one in mode 1, one without a member, and one
-/// without its log.
-fn shelves(stand: &mut Stand) -> Result<Vec<(Shelf, Vec<Call>)>, String> {
-    let fresh = Pair::fresh(Measures { d: 2, s: 2, b: 1, l: 3, h: 1, e: 2, layout: 0 }, 99, stand)?;
+/// Shelves of two stripes with so many parities, with the calls that are accepted: a fresh one, one in mode 1, one
+/// without a member, and one without its log.
+fn shelves(parities: usize, stand: &mut Stand) -> Result<Vec<(Shelf, Vec<Call>)>, String> {
+    let fresh = Pair::fresh(Measures { d: 2, s: 2, b: 1, l: 3, h: 1, e: 2, layout: 0, parities }, 99, stand)?;
     let after = |call: Call, stand: &mut Stand| {
         let mut pair = fresh.clone();
         pair.step(call, Buffer::empty(), stand).map(|_| pair.shelf)
@@ -245,7 +278,7 @@ fn shelves(stand: &mut Stand) -> Result<Vec<(Shelf, Vec<Call>)>, String> {
     let on_fresh =
         vec![Call::Format, Call::Start, Call::Fail(0), write(1, 1), read(2, 1), fetch(2, 1), Call::FullResync];
     let started = after(Call::Start, stand)?;
-    let without = [after(Call::Fail(1), stand)?, after(Call::Fail(4), stand)?];
+    let without = [after(Call::Fail(1), stand)?, after(Call::Fail(2 + parities), stand)?];
     let [failed, without_log] = without;
     Ok(vec![
         (fresh.shelf.clone(), on_fresh),
@@ -255,41 +288,53 @@ fn shelves(stand: &mut Stand) -> Result<Vec<(Shelf, Vec<Call>)>, String> {
     ])
 }
 
-/// Fails unless each call is accepted in both layouts, and gets 1 in any other and leaves all as it was.
-fn neither(stand: &mut Stand) -> Result<(), String> {
-    for (shelf, calls) in shelves(stand)? {
+/// Fails unless each call on a shelf with so many parities is accepted in both layouts, gets 1 in any other layout and
+/// with any other count of parities but the other one, with that one gets 2 for the array's length or 1 for the flags,
+/// and leaves all as it was.
+fn neither(parities: usize, stand: &mut Stand) -> Result<(), String> {
+    for (shelf, calls) in shelves(parities, stand)? {
         let mut shelf = Shelf { data: Buffer::of(vec![33]), ..shelf };
-        for call in calls {
-            for layout in [0, 1] {
-                shelf.record.measures.layout = layout;
-                if stand.as_model(call, &shelf)?.code() != 0 {
-                    return Err(format!("{call:?} is refused; the shelf: {shelf}"));
-                }
+        for (call, layout) in calls.into_iter().flat_map(|call| [(call, 0), (call, 1)]) {
+            let m = Measures { layout, ..shelf.record.measures };
+            shelf.record.measures = m;
+            if stand.as_model(call, &shelf)?.code() != 0 {
+                return Err(format!("{call:?} is refused; the shelf: {shelf}"));
             }
-            for layout in NEITHER {
-                shelf.record.measures.layout = layout;
-                stand.expect(call, &shelf, &Due::nothing(call, &shelf, 1))?;
+            let layouts = NEITHER.map(|layout| (Measures { layout, ..m }, 1));
+            let counts = NO_COUNT.map(|parities| (Measures { parities, ..m }, 1));
+            let of_two = parities == 2 && shelf.record.failed[4] != 0;
+            let other = (Measures { parities: 3 - parities, ..m }, if of_two { 1 } else { 2 });
+            for (measures, code) in layouts.into_iter().chain(counts).chain([other]) {
+                shelf.record.measures = measures;
+                stand.expect(call, &shelf, &Due::nothing(call, &shelf, code))?;
             }
+            shelf.record.measures = m;
         }
     }
     Ok(())
 }
 
-/// Tries both tables and the layouts that are neither.
+/// Tries the tables, and the layouts and counts of parities that are neither.
 pub fn group(seed: u64) -> Outcome {
     let random = &mut Random::new(seed, 11);
     let stand = &mut Stand::default();
-    let mut rebuilds = table(2, &OF_TWO.each_ref().map(|row| &row[..]), stand, random)?;
-    rebuilds += table(5, &OF_FIVE.each_ref().map(|row| &row[..]), stand, random)?;
-    neither(stand)?;
+    let mut rebuilds = table([2, 2], &OF_TWO.each_ref().map(|row| &row[..]), stand, random)?;
+    rebuilds += table([5, 2], &OF_FIVE.each_ref().map(|row| &row[..]), stand, random)?;
+    rebuilds += table([2, 1], &OF_TWO_WITHOUT_Q.each_ref().map(|row| &row[..]), stand, random)?;
+    rebuilds += table([3, 1], &OF_THREE_WITHOUT_Q.each_ref().map(|row| &row[..]), stand, random)?;
+    neither(1, stand)?;
+    neither(2, stand)?;
     Ok(format!(
-        "{} and {} rows by hand, as the model, the book, plain reads with each pair of members failed and {} shelves \
-         beside their twins have them; {rebuilds} rebuilds of twins; {} layouts that are neither, refused by every \
-         call; {} calls; seed {seed}",
+        "{} and {} rows by hand, {} and {} with one parity, as the model, the book, plain reads with each pair of \
+         members failed, or each one, and {} shelves beside their twins have them; {rebuilds} rebuilds of twins; {} \
+         layouts and {} counts of parities that are neither, refused by every call; {} calls; seed {seed}",
         OF_TWO.len(),
         OF_FIVE.len(),
-        4 * PAIRS,
+        OF_TWO_WITHOUT_Q.len(),
+        OF_THREE_WITHOUT_Q.len(),
+        8 * PAIRS,
         NEITHER.len(),
+        NO_COUNT.len(),
         stand.calls
     ))
 }

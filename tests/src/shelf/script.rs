@@ -34,18 +34,18 @@ pub struct Script {
 }
 
 impl Script {
-    /// A shelf of these measures that format has set up; its parity is fixed.
+    /// A shelf of these measures that format has set up; its parity is fixed, P and Q.
     pub fn fresh(d: usize, s: usize, b: usize, [l, h, e]: [usize; 3], stand: &mut Stand) -> Result<Script, String> {
-        Script::of(Measures { d, s, b, l, h, e, layout: 0 }, stand)
+        Script::of(Measures { d, s, b, l, h, e, layout: 0, parities: 2 }, stand)
     }
 
     /// The same where parity rotates.
     pub fn rotating(d: usize, s: usize, b: usize, [l, h, e]: [usize; 3], stand: &mut Stand) -> Result<Script, String> {
-        Script::of(Measures { d, s, b, l, h, e, layout: 1 }, stand)
+        Script::of(Measures { d, s, b, l, h, e, layout: 1, parities: 2 }, stand)
     }
 
-    /// The same of either layout.
-    fn of(m: Measures, stand: &mut Stand) -> Result<Script, String> {
+    /// The same of any measures.
+    pub fn of(m: Measures, stand: &mut Stand) -> Result<Script, String> {
         let [array, log, list] = lengths(m).map(|length| Buffer::of(vec![77; length as usize]));
         let record = Record { measures: m, mode: 9, next: 9, listed: 9, failed: [1; 19] };
         let mut script = Script { shelf: Shelf { record, array, log, list, data: Buffer::empty() }, byte: 77 };
@@ -82,12 +82,12 @@ impl Script {
 
     /// Overwrites the failed members.
     fn spoil(&mut self) {
-        let Measures { d, s, b, .. } = self.shelf.record.measures;
+        let m = self.shelf.record.measures;
         self.byte = self.byte.wrapping_add(59);
-        for member in (0..d + 2).filter(|&member| self.shelf.record.failed[member] != 0) {
-            self.shelf.array.bytes[member * s * b..][..s * b].fill(self.byte);
+        for member in (0..m.log()).filter(|&member| self.shelf.record.failed[member] != 0) {
+            self.shelf.array.bytes[member * m.s * m.b..][..m.s * m.b].fill(self.byte);
         }
-        if self.shelf.record.failed[d + 2] != 0 {
+        if self.shelf.record.failed[m.log()] != 0 {
             self.shelf.log.bytes.fill(self.byte);
         }
     }

@@ -158,7 +158,7 @@ impl Stand {
         }
         let (due, events) = works::outcome(call, shelf, found.code());
         self.expect(call, shelf, &due)?;
-        self.seen.count(shelf.record.measures.layout, events);
+        self.seen.count(shelf.record.measures, events);
         Ok(found)
     }
 

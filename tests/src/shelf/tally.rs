@@ -1,7 +1,7 @@
-//! What the cases covered in each layout: how often each number was answered, in the company of which others, and each
-//! fault alone.
+//! What the cases covered in each layout and with each count of parities: how often each number was answered, in the
+//! company of which others, and each fault alone.
 
-use super::calls::{Call, Shelf};
+use super::calls::{Call, Measures, Shelf};
 use super::model::{Fault, Findings, OF_LENGTHS, OF_LIST, OF_MEASURES, OF_RECORD};
 
 /// How many calls there are, and numbers from 0 to the last one that a call answers.
@@ -22,9 +22,24 @@ const NUMBERS: [(&str, &[usize]); CALLS] = [
     ("full resync", &[1, 2, 8]),
 ];
 
-/// The pairs of numbers that never apply together: a member above d + 2 has no flag; a block is withheld only where a
+/// The number that is never answered with one parity: the log and a disk can't both be failed then.
+const WITHHELD: usize = 14;
+
+/// The pairs of numbers that never apply together: a member above the log has no flag; a block is withheld only where a
 /// disk has failed.
-const APART: [(&str, usize, usize); 2] = [("fail", 6, 10), ("rebuild", 12, 14)];
+const APART_OF_TWO: [(&str, usize, usize); 2] = [("fail", 6, 10), ("rebuild", 12, WITHHELD)];
+
+/// The same with one parity: besides, a disk and the log have not both failed where the record passes. That a member
+/// has failed already is never all that applies, since one failure is the limit.
+const APART_OF_ONE: [(&str, usize, usize); 3] = [("fail", 6, 10), ("start", 8, 9), ("fail", 10, 10)];
+
+/// Those with so many parities.
+fn apart(parities: usize) -> &'static [(&'static str, usize, usize)] {
+    match parities {
+        1 => &APART_OF_ONE,
+        _ => &APART_OF_TWO,
+    }
+}
 
 /// The faults of rows 1 to 3 by what they are of.
 const FAULTS: [(usize, &[Fault]); 4] = [(1, &OF_MEASURES), (1, &OF_RECORD), (2, &OF_LENGTHS), (3, &OF_LIST)];
@@ -45,8 +60,15 @@ struct Counts {
     alone: [[usize; 64]; CALLS],
 }
 
-/// The counts of the shelves whose parity is fixed, of those where it rotates, and of those whose layout is neither.
-pub struct Tally([Counts; 3]);
+/// The counts of the shelves by layout and by the parities less one, and of those whose layout or count of parities is
+/// none that there is.
+pub struct Tally {
+    known: [[Counts; 2]; 2],
+    neither: Counts,
+}
+
+/// The faults of such a layout or such a count.
+const OF_NEITHER: [Fault; 3] = [Fault::HighLayout, Fault::HighParities, Fault::LowParities];
 
 /// The index of a call in the counts.
 pub fn index(call: Call) -> usize {
@@ -69,37 +91,50 @@ pub fn name(index: usize) -> &'static str {
     NUMBERS[index].0
 }
 
-/// Whether the call that has this index can answer this number.
-pub fn answers(index: usize, code: usize) -> bool {
-    NUMBERS[index].1.contains(&code)
+/// Whether the call that has this index can answer this number on a shelf with so many parities.
+pub fn answers(index: usize, code: usize, parities: usize) -> bool {
+    NUMBERS[index].1.contains(&code) && (parities == 2 || code != WITHHELD)
 }
 
 impl Tally {
     /// Counts of nothing so far.
     pub fn new() -> Tally {
-        Tally([(); 3].map(|_| Counts { numbers: [[[0; CODES]; CODES]; CALLS], alone: [[0; 64]; CALLS] }))
+        let known = [(); 2].map(|_| [(); 2].map(|_| Counts::new()));
+        Tally { known, neither: Counts::new() }
     }
 
     /// Counts a case.
     pub fn count(&mut self, call: Call, shelf: &Shelf, found: &Findings) {
-        self.0[shelf.record.measures.layout.min(2)].count(index(call), found);
+        let counts = match shelf.record.measures {
+            Measures { layout: layout @ 0..=1, parities: parities @ 1..=2, .. } => {
+                &mut self.known[layout][parities - 1]
+            }
+            _ => &mut self.neither,
+        };
+        counts.count(index(call), found);
     }
 
-    /// Fails unless, in either layout, every call answered 0 and each of its numbers, and no other, each number was the
-    /// first where each later one applied too, and each fault was the only one of its row. A layout that is neither was
-    /// the only fault of its row too. Hands back the least count of a fault.
+    /// Fails unless, in either layout and with either count of parities, every call answered 0 and each of its numbers,
+    /// and no other, each number was the first where each later one applied too, and each fault was the only one of its
+    /// row. A layout or a count that is neither was the only fault of its row too. Hands back the least count of a
+    /// fault.
     pub fn complete(&self) -> Result<usize, String> {
-        let [fixed, rotating, neither] = &self.0;
-        let mut least = usize::MAX;
-        for (layout, counts) in [("fixed", fixed), ("rotating", rotating)] {
-            let found = counts.numbers().and_then(|()| counts.faults(|fault| fault != Fault::HighLayout));
-            least = least.min(found.map_err(|fault| format!("{layout} layout: {fault}"))?);
+        let mut least = self.neither.faults(|fault| OF_NEITHER.contains(&fault))?;
+        for (layout, parities) in [(0, 1), (0, 2), (1, 1), (1, 2)] {
+            let counts = &self.known[layout][parities - 1];
+            let found = counts.numbers(parities).and_then(|()| counts.faults(|fault| !OF_NEITHER.contains(&fault)));
+            least = least.min(found.map_err(|fault| format!("layout {layout}, parities {parities}: {fault}"))?);
         }
-        Ok(least.min(neither.faults(|fault| fault == Fault::HighLayout)?))
+        Ok(least)
     }
 }
 
 impl Counts {
+    /// Counts of nothing so far.
+    fn new() -> Counts {
+        Counts { numbers: [[[0; CODES]; CODES]; CALLS], alone: [[0; 64]; CALLS] }
+    }
+
     /// Counts a case of a call.
     fn count(&mut self, call: usize, found: &Findings) {
         let code = found.code();
@@ -118,18 +153,22 @@ impl Counts {
     }
 
     /// Fails unless every call answered 0 and each of its numbers, and no other, and each number was the first where each
-    /// later one applied too.
-    fn numbers(&self) -> Result<(), String> {
-        for (call, (name, numbers)) in NUMBERS.iter().enumerate() {
-            let is_other = |code: &usize| !answers(call, *code) && self.numbers[call][*code] != [0; CODES];
+    /// later one applied too, but not where they never apply together.
+    fn numbers(&self, parities: usize) -> Result<(), String> {
+        for (call, (name, _)) in NUMBERS.iter().enumerate() {
+            let is_other = |code: &usize| !answers(call, *code, parities) && self.numbers[call][*code] != [0; CODES];
             if let Some(code) = (1..CODES).find(is_other) {
                 return Err(format!("{name} answered {code}, which is none of its numbers"));
             }
-            for &code in [0].iter().chain(*numbers) {
-                let meets = |other: usize| other > code && code > 0 && !APART.contains(&(name, code, other));
-                let later = numbers.iter().filter(|&&other| meets(other));
-                if let Some(other) = [code].iter().chain(later).find(|&&other| self.numbers[call][code][other] == 0) {
-                    return Err(format!("no case of {name} answered {code} where {other} applied"));
+            let all: Vec<usize> = (0..CODES).filter(|&code| code == 0 || answers(call, code, parities)).collect();
+            for &code in &all {
+                let later = all.iter().copied().filter(|&other| other > code && code > 0);
+                for other in [code].into_iter().chain(later) {
+                    let is_apart = apart(parities).contains(&(name, code, other));
+                    if is_apart != (self.numbers[call][code][other] == 0) {
+                        let which = if is_apart { "a" } else { "no" };
+                        return Err(format!("{which} case of {name} answered {code} where {other} applied"));
+                    }
                 }
             }
         }

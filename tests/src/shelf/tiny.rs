@@ -1,6 +1,6 @@
 //! Complete walks of tiny shelves: every list of one or two slots and two places over the words that matter, with every
-//! call on those that are sound, in both layouts; and every choice of layout, d, mode, failed members and call, with
-//! every member to fail.
+//! call on those that are sound, in both layouts and with both counts of parities; and every choice of these, d, mode,
+//! failed members and call, with every member to fail.
 
 use super::calls::{fetch, read, write, Buffer, Call, Measures, Record, Shelf};
 use super::lists::pick;
@@ -17,16 +17,30 @@ const PLACES: [u32; 4] = [0, 1, 2, NONE];
 const ADDRESSES: [u32; 4] = [0, 1, 2, NONE];
 const RECORDS: [u32; 3] = [0, 1, NONE];
 
-/// A shelf of one stripe of blocks of one byte, with fixed parity.
+/// A shelf of one stripe of blocks of one byte, with P and Q that are fixed.
 fn shelf(d: usize, l: usize, h: usize, e: usize, list: Vec<u8>) -> Shelf {
-    let measures = Measures { d, s: 1, b: 1, l, h, e, layout: 0 };
+    let measures = Measures { d, s: 1, b: 1, l, h, e, layout: 0, parities: 2 };
     Shelf {
         record: Record { measures, mode: 0, next: 0, listed: 0, failed: [0; 19] },
-        array: Buffer::of((0..d + 2).map(|at| at as u8 + 100).collect()),
+        array: Buffer::of(array(measures)),
         log: Buffer::of((0..l).map(|at| at as u8 + 200).collect()),
         list: Buffer::of(list),
         data: Buffer::of(vec![33]),
     }
+}
+
+/// The array of such a shelf: another byte on each member.
+fn array(m: Measures) -> Vec<u8> {
+    (0..m.log()).map(|at| at as u8 + 100).collect()
+}
+
+/// The layouts, each with each count of parities.
+const KINDS: [[usize; 2]; 4] = [[0, 1], [0, 2], [1, 1], [1, 2]];
+
+/// Has the shelf be of this layout, with so many parities.
+fn become_kind(shelf: &mut Shelf, [layout, parities]: [usize; 2]) {
+    (shelf.record.measures.layout, shelf.record.measures.parities) = (layout, parities);
+    shelf.array = Buffer::of(array(shelf.record.measures));
 }
 
 /// Takes the next list: the words are counted up like the digits of a number. Whether there is one.
@@ -61,7 +75,7 @@ const ON_SOUND: [Call; 11] = [
     Call::Resync,
 ];
 
-/// The sets of failed members of a shelf with two data disks.
+/// The sets of failed members of a shelf with two data disks and two parities; the first five are those with one.
 const FAILED: [&[usize]; 16] = [
     &[],
     &[0],
@@ -85,8 +99,8 @@ const FAILED: [&[usize]; 16] = [
 /// one with Cur too; for both addresses each with Ori, with Cur or with both.
 const SOUND: usize = 1 + 2 * 2 + 3 * 3;
 
-/// Walks all lists of so many slots, with the counts that are possible, each in either layout. Fails unless as many as
-/// are sound pass.
+/// Walks all lists of so many slots, with the counts that are possible, each in either layout and with either count of
+/// parities. Fails unless as many as are sound pass.
 fn all_lists(h: usize, stand: &mut Stand, random: &mut Random) -> Result<(), String> {
     let place: [&[u32]; 4] = [&ADDRESSES, &RECORDS, &RECORDS, &PLACES];
     let choices: Vec<&[u32]> = [&PLACES[..]].repeat(h).into_iter().chain(place).chain(place).collect();
@@ -95,7 +109,7 @@ fn all_lists(h: usize, stand: &mut Stand, random: &mut Random) -> Result<(), Str
     loop {
         for (mode, next, listed) in [(0, 0, 0), (1, 1, 1), (2, 1, 2)] {
             (shelf.record.mode, shelf.record.next, shelf.record.listed) = (mode, next, listed);
-            shelf.record.measures.layout = pick(2, random);
+            become_kind(&mut shelf, KINDS[pick(4, random)]);
             match stand.as_model(TESTING[pick(TESTING.len(), random)], &shelf)?.faults[2].count() {
                 0 => {
                     passed += 1;
@@ -116,12 +130,13 @@ fn all_lists(h: usize, stand: &mut Stand, random: &mut Random) -> Result<(), Str
     }
 }
 
-/// Makes the calls of a sound list, each with each set of failed members, in both layouts.
+/// Makes the calls of a sound list, each with each set of failed members, in both layouts and with both counts.
 fn sound_list(shelf: &Shelf, stand: &mut Stand) -> Result<(), String> {
     let mut shelf = shelf.clone();
-    let cases = FAILED.into_iter().flat_map(|failed| [(failed, 0), (failed, 1)]);
-    for (call, (failed, layout)) in ON_SOUND.into_iter().flat_map(|call| cases.clone().map(move |case| (call, case))) {
-        shelf.record.measures.layout = layout;
+    let sets = |[_, parities]: [usize; 2]| FAILED.into_iter().take(if parities == 1 { 5 } else { 16 });
+    let cases = KINDS.into_iter().flat_map(|kind| sets(kind).map(move |failed| (failed, kind)));
+    for (call, (failed, kind)) in ON_SOUND.into_iter().flat_map(|call| cases.clone().map(move |case| (call, case))) {
+        become_kind(&mut shelf, kind);
         shelf.record.failed = [0; 19];
         failed.iter().for_each(|&member| shelf.record.failed[member] = 1);
         let (_, count) = call.blocks().unwrap_or((0, 0));
@@ -154,17 +169,18 @@ fn flag_sets() -> Vec<[u8; 19]> {
 /// ones.
 const FAR: [usize; 6] = [256, 65536 + 3, 1 << 32, (1 << 63) + 1, usize::MAX - 2, usize::MAX];
 
-/// Walks every layout, d, set of flags, mode with and without a listed block, and call, with every member to fail.
+/// Walks every layout, count of parities, d, set of flags, mode with and without a listed block, and call, with every
+/// member to fail. The sets go up to one flag more than may be set.
 fn all_members(stand: &mut Stand) -> Result<(), String> {
     let word = |words: &[u32]| words.iter().flat_map(|word| word.to_le_bytes()).collect::<Vec<u8>>();
     let lists = [word(&[NONE; 5]), word(&[0, 1, 0, NONE, NONE])];
     let sets = flag_sets();
-    for (d, layout) in (2..=16).flat_map(|d| [(d, 0), (d, 1)]) {
+    for (d, kind) in (2..=16).flat_map(|d| KINDS.map(|kind| (d, kind))) {
         for (mode, listed) in (0..4).flat_map(|mode| [(mode, 0), (mode, 1)]) {
             let mut shelf = shelf(d, 1, 1, 1, lists[listed].clone());
-            shelf.record.measures.layout = layout;
+            become_kind(&mut shelf, kind);
             (shelf.record.mode, shelf.record.next, shelf.record.listed) = (mode, listed, listed);
-            for set in &sets {
+            for set in sets.iter().filter(|set| set.iter().sum::<u8>() as usize <= kind[1] + 1) {
                 shelf.record.failed = *set;
                 every_call(&shelf, stand)?;
             }
@@ -185,7 +201,7 @@ fn every_call(shelf: &Shelf, stand: &mut Stand) -> Result<(), String> {
     }
     if started == 1 {
         stand.as_model(Call::Fail(shelf.record.mode), shelf)?;
-        return stand.as_model(Call::Fail(shelf.record.measures.d + 2), shelf).map(|_| ());
+        return stand.as_model(Call::Fail(shelf.record.measures.log()), shelf).map(|_| ());
     }
     for member in (0..=20).chain(FAR) {
         let found = stand.as_model(Call::Fail(member), shelf)?;
@@ -205,8 +221,8 @@ pub fn group(seed: u64) -> Outcome {
     let lists = stand.calls;
     all_members(&mut stand)?;
     Ok(format!(
-        "{lists} calls on all lists of two places, {} of which are sound; {} on every layout, d, mode, set of failed \
-         members and call, with every member to fail; seed {seed}",
+        "{lists} calls on all lists of two places, {} of which are sound; {} on every layout, count of parities, d, \
+         mode, set of failed members and call, with every member to fail; seed {seed}",
         2 * SOUND,
         stand.calls - lists
     ))

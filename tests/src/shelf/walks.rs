@@ -1,5 +1,5 @@
-//! Walks of tiny shelves: from a fresh one on, every call is made on every shelf that is reached, the nearest first,
-//! against the model and against the book.
+//! Walks of tiny shelves: from a fresh one and from one in mode 2 on, every call is made on every shelf that is
+//! reached, the nearest first, against the model and against the book.
 
 use std::collections::{HashMap, HashSet, VecDeque};
 
@@ -11,24 +11,33 @@ use super::stand::Stand;
 use crate::Outcome;
 
 /// The measures of the shelves: room in log and list for all, for some, and for next to nothing. Those whose parity
-/// rotates have as few stripes, or enough for a member to have data of one, P of another and Q of a third.
-const MEASURES: [[usize; 7]; 12] = [
-    [2, 1, 1, 3, 1, 2, 0],
-    [2, 1, 1, 9, 2, 1, 0],
-    [2, 2, 1, 4, 2, 4, 0],
-    [2, 2, 1, 9, 1, 3, 0],
-    [3, 1, 1, 5, 3, 3, 0],
-    [3, 2, 1, 7, 2, 4, 0],
-    [4, 1, 1, 6, 1, 4, 0],
-    [2, 2, 1, 4, 2, 4, 1],
-    [2, 3, 1, 9, 1, 3, 1],
-    [2, 5, 1, 6, 3, 4, 1],
-    [3, 1, 1, 5, 3, 3, 1],
-    [3, 3, 1, 7, 2, 4, 1],
+/// rotates have as few stripes, or enough for a member to have data of one, P of another and Q, if there is one, of a
+/// third.
+const MEASURES: [[usize; 8]; 20] = [
+    [2, 1, 1, 3, 1, 2, 0, 2],
+    [2, 1, 1, 9, 2, 1, 0, 2],
+    [2, 2, 1, 4, 2, 4, 0, 2],
+    [2, 2, 1, 9, 1, 3, 0, 2],
+    [3, 1, 1, 5, 3, 3, 0, 2],
+    [3, 2, 1, 7, 2, 4, 0, 2],
+    [4, 1, 1, 6, 1, 4, 0, 2],
+    [2, 2, 1, 4, 2, 4, 1, 2],
+    [2, 3, 1, 9, 1, 3, 1, 2],
+    [2, 5, 1, 6, 3, 4, 1, 2],
+    [3, 1, 1, 5, 3, 3, 1, 2],
+    [3, 3, 1, 7, 2, 4, 1, 2],
+    [2, 1, 1, 3, 1, 2, 0, 1],
+    [2, 2, 1, 9, 1, 3, 0, 1],
+    [3, 1, 1, 5, 3, 3, 0, 1],
+    [3, 2, 1, 7, 2, 4, 0, 1],
+    [2, 2, 1, 4, 2, 4, 1, 1],
+    [2, 4, 1, 6, 3, 4, 1, 1],
+    [3, 1, 1, 5, 3, 3, 1, 1],
+    [3, 3, 1, 7, 2, 4, 1, 1],
 ];
 
 /// The most shelves of the same measures on which calls are made.
-const MOST: usize = 2_500;
+const MOST: usize = 1_800;
 
 /// What tells two shelves apart: the record's mode, next and flags, array, log, list, the book's blocks.
 type Key = ([usize; 2], [u8; 19], Vec<u8>, Vec<u8>, Vec<u8>, Vec<u8>);
@@ -38,7 +47,7 @@ type Key = ([usize; 2], [u8; 19], Vec<u8>, Vec<u8>, Vec<u8>, Vec<u8>);
 fn calls(m: Measures) -> Vec<Call> {
     let blocks = m.d * m.s;
     let mut calls = vec![Call::Start, Call::NewLog, Call::Resync, Call::Rebuild, Call::FullResync];
-    calls.extend((0..m.d + 3).map(Call::Fail));
+    calls.extend((0..=m.log()).map(Call::Fail));
     let single = (0..blocks).map(|address| (address, 1));
     let ranges = single.chain((0..m.s).map(|stripe| (stripe * m.d, m.d))).chain([(0, blocks - 1), (1, blocks - 1)]);
     for (address, count) in ranges.chain((m.s > 1).then_some((0, blocks))) {
@@ -101,13 +110,31 @@ impl Lists {
     }
 }
 
-/// Walks the shelves of these measures; hands back how many were reached, and how often the same was listed again.
-fn walk([d, s, b, l, h, e, layout]: [usize; 7], stand: &mut Stand) -> Result<[usize; 2], String> {
-    let m = Measures { d, s, b, l, h, e, layout };
+/// The shelves from which a walk begins: a fresh one and, of more stripes than one, one of which two were stale and the
+/// first is resynced.
+fn starts(m: Measures, stand: &mut Stand) -> Result<Vec<Pair>, String> {
     let fresh = Pair::fresh(m, 99, stand)?;
-    let mut reached = HashSet::from([key(&fresh)]);
+    if m.s == 1 {
+        return Ok(vec![fresh]);
+    }
+    let mut transitional = fresh.clone();
+    for call in [Call::Start, write(0, 1), write(m.d, 1), Call::Resync] {
+        let data = Buffer::of(data(call, &transitional.book));
+        transitional.step(call, data, stand)?;
+    }
+    match transitional.book.counts().0 == 2 {
+        true => Ok(vec![fresh, transitional]),
+        false => Err(format!("the walk does not begin in mode 2; the shelf: {}", transitional.shelf)),
+    }
+}
+
+/// Walks the shelves of these measures; hands back how many were reached, and how often the same was listed again.
+fn walk([d, s, b, l, h, e, layout, parities]: [usize; 8], stand: &mut Stand) -> Result<[usize; 2], String> {
+    let m = Measures { d, s, b, l, h, e, layout, parities };
+    let starts = starts(m, stand)?;
+    let mut reached: HashSet<Key> = starts.iter().map(key).collect();
     let mut lists = Lists::default();
-    let mut waiting = VecDeque::from([fresh]);
+    let mut waiting = VecDeque::from(starts);
     while let Some(pair) = waiting.pop_front() {
         for call in calls(m) {
             let mut next = pair.clone();
@@ -139,8 +166,9 @@ pub fn group(_seed: u64) -> Outcome {
         return Err(format!("the same was listed in {again} more ways, not 20"));
     }
     Ok(format!(
-        "{} calls, every one on each of {reached} shelves near fresh ones of both layouts; each way of their work \
-         {least} times at least; the same was listed {again} times more at least, in the same bytes",
+        "{} calls, every one on each of {reached} shelves near fresh ones, and near ones in mode 2, of both layouts \
+         and both counts of parities; each way of their work {least} times at least; the same was listed {again} times \
+         more at least, in the same bytes",
         stand.calls
     ))
 }

@@ -8,21 +8,24 @@ use super::due::Due;
 use super::events::{Event, Events};
 use super::layout::{Entries, List};
 use super::model::{findings, NONE};
+use super::parity::{made, recovered};
 use super::roles;
-use crate::model::{made, recovered};
 
-/// What is due of a call that is answered with this number, and the ways in which its work is done or a plain read is
-/// refused.
+/// What is due of a call that is answered with this number, and the ways in which its work is done, a plain read is
+/// refused, or blocks are withheld.
 pub fn outcome(call: Call, shelf: &Shelf, code: usize) -> (Due, Events) {
     let mut due = Due::nothing(call, shelf, code);
     let mut events = Events::default();
     match call {
         Call::Read { address, count } if code == 16 => events = lost(shelf, address, count),
-        _ if code != 0 => {}
+        _ if code != 0 => {
+            events.add(Event::FetchWithheld, code == 14 && call.is_read());
+            events.add(Event::RebuildWithheld, code == 14 && call == Call::Rebuild);
+        }
         Call::Format => format(shelf, &mut due),
         Call::Start => due.record.mode = 1,
         Call::Fail(member) => due.record = failed(shelf.record, member),
-        Call::NewLog => due.record.failed[shelf.record.measures.d + 2] = 0,
+        Call::NewLog => due.record.failed[shelf.record.measures.log()] = 0,
         Call::Read { address, count } => due.data = Some(read(shelf, address..address + count, &mut events)),
         Call::Fetch { address, count } => due.data = Some(fetched(shelf, address..address + count, &mut events)),
         Call::Write { .. } | Call::Resync | Call::Rebuild | Call::FullResync => {
@@ -47,7 +50,7 @@ fn format(shelf: &Shelf, due: &mut Due) {
 fn failed(given: Record, member: usize) -> Record {
     let mut after = given;
     after.failed[member] = 1;
-    if member == given.measures.d + 2 && given.mode == 1 {
+    if member == given.measures.log() && given.mode == 1 {
         after.mode = if given.listed > 0 { 2 } else { 0 };
     }
     after
@@ -55,12 +58,12 @@ fn failed(given: Record, member: usize) -> Record {
 
 /// The blocks as they stand in the array: all are on sound members.
 fn read(shelf: &Shelf, addresses: Range<usize>, events: &mut Events) -> Vec<u8> {
-    let (sight, Measures { d, .. }) = (Sight::of(shelf), shelf.record.measures);
-    let array_failed = (0..d + 2).any(|member| sight.is_failed(member));
+    let (sight, d, log) = (Sight::of(shelf), shelf.record.measures.d, shelf.record.measures.log());
+    let array_failed = (0..log).any(|member| sight.is_failed(member));
     let of_stripes = addresses.start / d * d..addresses.end.div_ceil(d) * d;
     events.add(Event::ReadSound, !array_failed);
     events.add(Event::ReadBesideFailed, array_failed);
-    events.add(Event::ReadStaleWithoutLog, sight.is_failed(d + 2) && sight.entries.range(of_stripes).count() > 0);
+    events.add(Event::ReadStaleWithoutLog, sight.is_failed(log) && sight.entries.range(of_stripes).count() > 0);
     addresses.flat_map(|address| sight.stored(sight.member(address), address / d)).copied().collect()
 }
 
@@ -144,15 +147,15 @@ impl Sight<'_> {
 
     /// What a recovering read gives of a block.
     fn block(&self, address: usize, events: &mut Events) -> Vec<u8> {
-        let (d, source) = (self.shelf.record.measures.d, self.source(address));
+        let (m, source) = (self.shelf.record.measures, self.source(address));
         let (is_member, is_listed) = (matches!(source, Source::Member), self.entries.contains_key(&address));
         events.add(Event::FetchSound, is_member && !is_listed);
         events.add(Event::FetchSoundListed, is_member && is_listed);
-        events.add(Event::FetchWithoutLog, !is_member && self.is_failed(d + 2));
+        events.add(Event::FetchWithoutLog, !is_member && self.is_failed(m.log()));
         events.add(Event::FetchCur, matches!(source, Source::Cur(_)));
         events.add(Event::FetchOri, matches!(source, Source::Ori(_)));
         match source {
-            Source::Member => self.stored(self.member(address), address / d).to_vec(),
+            Source::Member => self.stored(self.member(address), address / m.d).to_vec(),
             Source::Cur(record) | Source::Ori(record) => self.logged(record).to_vec(),
             Source::Parity => self.worked_back(address, events),
         }
@@ -173,11 +176,11 @@ impl Sight<'_> {
 
     /// An unlisted block on a failed member, worked back by parity from originals.
     fn worked_back(&self, address: usize, events: &mut Events) -> Vec<u8> {
-        let Measures { d, b, .. } = self.shelf.record.measures;
+        let m = self.shelf.record.measures;
+        let Measures { d, b, .. } = m;
         let (stripe, x) = (address / d, address % d);
-        let (mut row, mut y) = (vec![0; (d + 2) * b], x);
-        let members = roles::members(self.shelf.record.measures, stripe);
-        for (place, member) in members.into_iter().enumerate().filter(|&(place, _)| place != x) {
+        let (mut row, mut y) = (vec![0; m.log() * b], x);
+        for (place, member) in roles::members(m, stripe).into_iter().enumerate().filter(|&(place, _)| place != x) {
             match self.original(place, member, stripe) {
                 Some(bytes) => row[place * b..][..b].copy_from_slice(bytes),
                 None => y = place,
@@ -187,7 +190,7 @@ impl Sight<'_> {
         events.add(Event::FetchByQ, y == d);
         events.add(Event::FetchByP, y == x || y == d + 1);
         events.add(Event::FetchBesideOri, (0..d).any(|index| self.entries.contains_key(&(stripe * d + index))));
-        recovered(d, b, x, y, &row)[x * b..][..b].to_vec()
+        recovered(m, x, y, &row)[x * b..][..b].to_vec()
     }
 }
 
@@ -250,13 +253,13 @@ impl Work {
         self.entries.range(self.addresses(stripe)).next().is_some()
     }
 
-    /// Makes P and Q of a stripe.
+    /// Makes the parities of a stripe: P, and Q where there are two.
     fn make_parity(&mut self, stripe: usize) {
         let (members, mut row) = (roles::members(self.m, stripe), Vec::new());
         for &member in &members {
             row.extend_from_slice(&self.array[place(self.m, member, stripe)]);
         }
-        let row = made(self.m.d, self.m.b, &row);
+        let row = made(self.m, &row);
         for (&member, block) in members.iter().zip(row.chunks(self.m.b)).skip(self.m.d) {
             self.array[place(self.m, member, stripe)].copy_from_slice(block);
         }
@@ -370,7 +373,7 @@ impl Work {
     /// Enters mode 2 and makes P and Q of the lowest waiting stripe, or goes to mode 0 if none waits. Tells the stripe.
     fn resync(&mut self) -> usize {
         self.record.mode = 2;
-        self.events.add(Event::ResyncWithoutLog, self.record.failed[self.m.d + 2] != 0);
+        self.events.add(Event::ResyncWithoutLog, self.record.failed[self.m.log()] != 0);
         let Some(stripe) = (0..self.m.s).find(|&stripe| self.waits(stripe)) else {
             self.record.mode = 0;
             self.events.add(Event::ResyncNone, true);
@@ -393,9 +396,9 @@ impl Work {
             afresh.extend(self.make_lost_parity(&sight, stripe));
         }
         let (left, mode) = (self.entries.len(), shelf.record.mode);
-        self.record.failed[..self.m.d + 2].fill(0);
+        self.record.failed[..self.m.log()].fill(0);
         let events = &mut self.events;
-        events.add(Event::RebuildWithoutLog, sight.is_failed(self.m.d + 2));
+        events.add(Event::RebuildWithoutLog, sight.is_failed(self.m.log()));
         events.add(Event::RebuildData, !filled.is_empty() && before == 0);
         events.add(Event::RebuildDataListed, !filled.is_empty() && before > 0);
         events.add(Event::RebuildDataAccelerating, afresh.is_empty() && before == 0 && mode == 1);
@@ -439,7 +442,7 @@ impl Work {
     fn full_resync(&mut self) {
         self.events.add(Event::FullResyncFresh, self.record.listed == 0);
         self.events.add(Event::FullResyncListed, self.record.listed > 0);
-        self.events.add(Event::FullResyncWithoutLog, self.record.failed[self.m.d + 2] != 0);
+        self.events.add(Event::FullResyncWithoutLog, self.record.failed[self.m.log()] != 0);
         (0..self.m.s).for_each(|stripe| self.make_parity(stripe));
         (self.record.mode, self.record.next) = (0, 0);
     }

@@ -10,7 +10,7 @@ use native.Mathlib.Omega.{arith}
 use Rattle.stripe.proofs.Laws.{one-to-one}
 use lib.ListN.{length}
 use Rattle.shelf.specs.Counting.{count}
-use Rattle.shelf.specs.Members.{InRange, arrayMembers, logMember, allMembers, roleP, roleQ, memberAt, IsBlock, blockP, blockQ}
+use Rattle.shelf.specs.Members.{InRange, arrayMembers, logMember, allMembers, parityRole, memberAt, IsBlock, blockParity}
 use Rattle.shelf.specs.State.{Log, State, isSome, listed, marksIn}
 use Rattle.shelf.specs.Status.{arrayFailed, logFailed}
 use Rattle.shelf.specs.Book.{Book}
@@ -47,12 +47,11 @@ pub record Nearly (g : Geometry) (s : State) (b : Book) : Type 0 where
   pub origs : AreBlocks g orig
   pub noted : Noted g (logFailed g (s .failed)) (b .held) orig (s .log)
   -- sound parity is parity of the originals
-  pub p : (x : ℕ) → x < g .s → s .failed (memberAt g x (roleP g)) ≡ false → s .p x ≡ blockP g (orig x)
-  pub q : (x : ℕ) → x < g .s → s .failed (memberAt g x (roleQ g)) ≡ false → s .q x ≡ blockQ g (orig x)
+  pub parity : (x p : ℕ) → x < g .s → p < g .parities → s .failed (memberAt g x (parityRole g p)) ≡ false → s .parity x p ≡ blockParity g p (orig x)
   -- a stripe with a listed block that has no Ori is listed whole
   pub whole : (x i j : ℕ) → x < g .s → i < g .d → j < g .d → s .log .ori x i ≡ none → listed (s .log) x i ≡ true → listed (s .log) x j ≡ true
-  -- at most two members have failed; while accelerating, the log has not
-  pub two : count (allMembers g) (s .failed) ≤ 2
+  -- no more members have failed than there are parities; while accelerating, the log has not
+  pub few : count (allMembers g) (s .failed) ≤ g .parities
   pub one : s .mode ≡ 1 → logFailed g (s .failed) ≡ false
 
 -- What number 1 asks of a record, beside what `Nearly` and `Agrees` say.
@@ -77,7 +76,7 @@ positive Y = omega (arith, Y .d-least)
 pub all-sound : {g : Geometry} {s : State} {b : Book} → Nearly g s b → arrayFailed g (s .failed) ≡ false
     → (x i : ℕ) → x < g .s → i < g .d → s .disk x i ≡ b .held x i
 all-sound {g} {s} {b} A ok x i hx hi =
-    A .sound x i hx hi (any-none (arrayMembers g) (s .failed) ok (memberAt g x i) (one-to-one (g .layout) (g .d) x .within i (omega arith)))
+    A .sound x i hx hi (any-none (arrayMembers g) (s .failed) ok (memberAt g x i) (one-to-one (g .layout) (g .d) (g .parities) x .within i (omega arith)))
 
 -- of the blocks held, only those within the geometry matter
 pub held-ext : (g : Geometry) (s : State) (b : Book) (h : ℕ → ℕ → List ℕ) → ((x i : ℕ) → x < g .s → i < g .d → h x i ≡ b .held x i)
@@ -101,10 +100,9 @@ held-ext g s b h e A =
                   oris = N .noted .oris;
                   curs = λ x i hx hi r c. let a = N .noted .curs x i hx hi r c in (a .0, λ l. a .1 l ∙ sym (e x i hx hi));
                 };
-            p = N .p;
-            q = N .q;
+            parity = N .parity;
             whole = N .whole;
-            two = N .two;
+            few = N .few;
             one = N .one;
           };
       valid = A .valid;
@@ -116,8 +114,7 @@ held-ext g s b h e A =
 -- t is s but for failed members' blocks and whatever lies outside the geometry
 pub record Alike (g : Geometry) (s t : State) : Type 0 where
   pub disk : (x i : ℕ) → x < g .s → i < g .d → s .failed (memberAt g x i) ≡ false → t .disk x i ≡ s .disk x i
-  pub p : (x : ℕ) → x < g .s → s .failed (memberAt g x (roleP g)) ≡ false → t .p x ≡ s .p x
-  pub q : (x : ℕ) → x < g .s → s .failed (memberAt g x (roleQ g)) ≡ false → t .q x ≡ s .q x
+  pub parity : (x p : ℕ) → x < g .s → p < g .parities → s .failed (memberAt g x (parityRole g p)) ≡ false → t .parity x p ≡ s .parity x p
   pub log : (r : ℕ) → r < g .l → logFailed g (s .failed) ≡ false → length (s .log .value r) ≡ g .b → t .log .value r ≡ s .log .value r
   pub next : t .log .next ≡ s .log .next
   pub ori : (x i : ℕ) → x < g .s → i < g .d → t .log .ori x i ≡ s .log .ori x i
@@ -157,10 +154,10 @@ module _ {g : Geometry} {s t : State} {b : Book} (L : Alike g s t) (A : Agrees g
                     oris = λ x i hx hi r e. kept r (N .orig x i) (N .origs x i hx hi .0) (N .noted .oris x i hx hi r (sym (L .ori x i hx hi) ∙ e));
                     curs = λ x i hx hi r e. kept r (b .held x i) (N .helds x i hx hi .0) (N .noted .curs x i hx hi r (sym (L .cur x i hx hi) ∙ e));
                   };
-              p = λ x hx e. L .p x hx (member (memberAt g x (roleP g)) ∙ e) ∙ N .p x hx (member (memberAt g x (roleP g)) ∙ e);
-              q = λ x hx e. L .q x hx (member (memberAt g x (roleQ g)) ∙ e) ∙ N .q x hx (member (memberAt g x (roleQ g)) ∙ e);
+              parity = λ x p hx hp e.
+                  L .parity x p hx hp (member (memberAt g x (parityRole g p)) ∙ e) ∙ N .parity x p hx hp (member (memberAt g x (parityRole g p)) ∙ e);
               whole = λ x i j hx hi hj e e'. seen x j hx hj ∙ N .whole x i j hx hi hj (sym (L .ori x i hx hi) ∙ e) (sym (seen x i hx hi) ∙ e');
-              two = rw (L .failed) (N .two);
+              few = rw (L .failed) (N .few);
               one = λ e. sym (member (logMember g)) ∙ N .one (sym (L .mode) ∙ e);
             };
         valid =

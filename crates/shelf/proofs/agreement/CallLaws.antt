@@ -10,14 +10,14 @@ use lib.Dec.{eqb, ltb}
 use borrow.Author.Tests.{eq-eqb, lt-ltb, le-ltb, eqb-true, eqb-false}
 use Rattle.stripe.proofs.Laws.{one-to-one}
 use Rattle.shelf.specs.Counting.{choose, bit, count, any, setAt}
-use Rattle.shelf.specs.Members.{InRange, arrayMembers, logMember, allMembers, roleP, roleQ, memberAt, IsBlock}
+use Rattle.shelf.specs.Members.{InRange, arrayMembers, logMember, allMembers, parityRole, memberAt, IsBlock}
 use Rattle.shelf.specs.State.{State, isSome, listed, stale, marksIn, lowestStale}
 use Rattle.shelf.specs.Status.{start, fail, resync, rebuild, newLog, fullResync}
 use Rattle.shelf.specs.Calls.{inMode, nextLeft, modeLeft, settled, made, remade, resynced, blockAt, parityFailed, arrayCleared, rebuilt, modeWithout, work, code}
 use Rattle.shelf.specs.Book.{Marks, Book, closed, bookWork}
 use Rattle.shelf.specs.declared.record.Geometry.{Geometry}
 use Rattle.shelf.proofs.general.CountLaws.{setAt-here, setAt-same, setAt-other, setRow-other, first-ext, any-none, count-mono, count-at, first-found, first-none}
-use Rattle.shelf.proofs.general.TestLaws.{cases, clash, or-left, or-right, and-false, choose-true, choose-false}
+use Rattle.shelf.proofs.general.TestLaws.{cases, clash, and-false, choose-true, choose-false}
 use Rattle.shelf.proofs.agreement.ListedLaws.{never-some, unlisted, dropped-listed, marksIn-ext, stale-ext, marks-none, none-marks, no-marks}
 use Rattle.shelf.proofs.agreement.Agreement.{Nearly, Valid, Agrees, all-sound}
 use Rattle.shelf.proofs.agreement.StatusLaws.{start-passed, fail-passed, resync-passed, rebuild-passed, newLog-passed, fullResync-passed}
@@ -86,8 +86,7 @@ unfolding settled
 settled-none g s z e =
     λ i. record {
       disk = s .disk;
-      p = s .p;
-      q = s .q;
+      parity = s .parity;
       log = record { value = s .log .value; next = en i; ori = s .log .ori; cur = s .log .cur };
       mode = em i;
       failed = s .failed;
@@ -125,10 +124,9 @@ module _ (g : Geometry) (s : State) (b : Book) (A : Agrees g s b) where
               orig = N .orig;
               origs = N .origs;
               noted = N .noted;
-              p = N .p;
-              q = N .q;
+              parity = N .parity;
               whole = N .whole;
-              two = N .two;
+              few = N .few;
               one = λ _. start-passed g s z .1;
             };
         valid = record { room = A .valid .room; fits = A .valid .fits; modes = omega arith; zero = λ e. absurd (omega arith); top = A .valid .top };
@@ -157,10 +155,9 @@ module _ (g : Geometry) (s : State) (b : Book) (A : Agrees g s b) where
                     oris = λ x i hx hi r e. let w = N .noted .oris x i hx hi r e in (w .0, λ f. w .1 (before (logMember g) f));
                     curs = λ x i hx hi r e. let w = N .noted .curs x i hx hi r e in (w .0, λ f. w .1 (before (logMember g) f));
                   };
-              p = λ x hx f. N .p x hx (before (memberAt g x (roleP g)) f);
-              q = λ x hx f. N .q x hx (before (memberAt g x (roleQ g)) f);
+              parity = λ x p hx hp f. N .parity x p hx hp (before (memberAt g x (parityRole g p)) f);
               whole = N .whole;
-              two = most;
+              few = most;
               one = failed-one j (logMember g) (s .mode) marks (s .failed) (N .one);
             };
         valid =
@@ -174,7 +171,7 @@ module _ (g : Geometry) (s : State) (b : Book) (A : Agrees g s b) where
         idle = λ e. (A .idle e .0, failed-idle now marks (s .mode) (A .idle e .1) e);
       }
     where
-      passed : (j ≤ logMember g) × ((s .failed j ≡ false) × (count (allMembers g) (s .failed) < 2))
+      passed : (j ≤ logMember g) × ((s .failed j ≡ false) × (count (allMembers g) (s .failed) < g .parities))
       passed = fail-passed g s j z
 
       -- the log fails in mode 1
@@ -186,7 +183,7 @@ module _ (g : Geometry) (s : State) (b : Book) (A : Agrees g s b) where
       before i e =
           elim (ℕ-discrete i j) [ yes h ↦ clash (setAt-here j true (s .failed) i h) e | no h ↦ sym (setAt-other j true (s .failed) i h) ∙ e ]
 
-      most : count (allMembers g) (setAt j true (s .failed)) ≤ 2
+      most : count (allMembers g) (setAt j true (s .failed)) ≤ g .parities
       most =
           let e =
           count-at (allMembers g) (setAt j true (s .failed)) (s .failed) j (omega (arith, passed .0)) (λ i _ n. setAt-other j true (s .failed) i n) in
@@ -219,13 +216,12 @@ module _ (g : Geometry) (s : State) (b : Book) (A : Agrees g s b) where
                     oris = λ x i hx hi r e. absurd (never-some (sym (unlisted (s .log) x i (bare x i hx hi) .0) ∙ e));
                     curs = λ x i hx hi r e. absurd (never-some (sym (unlisted (s .log) x i (bare x i hx hi) .1) ∙ e));
                   };
-              p = λ x hx f. N .p x hx (before x (roleP g) (omega arith) f);
-              q = λ x hx f. N .q x hx (before x (roleQ g) (omega arith) f);
+              parity = λ x p hx hp f. N .parity x p hx hp (before x (parityRole g p) (omega arith) f);
               whole = N .whole;
-              two =
+              few =
                   omega (
                     arith,
-                    N .two,
+                    N .few,
                     count-mono (allMembers g) (setAt (logMember g) false (s .failed)) (s .failed) (λ i _ e.
                         elim (ℕ-discrete i (logMember g)) [
                           | yes h ↦ clash e (setAt-here (logMember g) false (s .failed) i h)
@@ -251,7 +247,7 @@ module _ (g : Geometry) (s : State) (b : Book) (A : Agrees g s b) where
       -- a stripe's members are none of them the log
       before : (x i : ℕ) → i < arrayMembers g → setAt (logMember g) false (s .failed) (memberAt g x i) ≡ false → s .failed (memberAt g x i) ≡ false
       before x i h f =
-          sym (setAt-other (logMember g) false (s .failed) (memberAt g x i) (λ e. omega (arith, one-to-one (g .layout) (g .d) x .within i h))) ∙ f
+          sym (setAt-other (logMember g) false (s .failed) (memberAt g x i) (λ e. omega (arith, one-to-one (g .layout) (g .d) (g .parities) x .within i h))) ∙ f
 
   -- ---- full resync
 
@@ -261,7 +257,7 @@ module _ (g : Geometry) (s : State) (b : Book) (A : Agrees g s b) where
 
   -- disks that hold what the book holds, with parity made of them in all stripes
   remade-keeps : (disk : ℕ → ℕ → List ℕ) → ((x i : ℕ) → x < g .s → i < g .d → disk x i ≡ b .held x i)
-      → (f : ℕ → Bool) → count (allMembers g) f ≤ 2 → ((i : ℕ) → allMembers g ≤ i → f i ≡ false) → Agrees g (remade g s disk f) (unmarked f)
+      → (f : ℕ → Bool) → count (allMembers g) f ≤ g .parities → ((i : ℕ) → allMembers g ≤ i → f i ≡ false) → Agrees g (remade g s disk f) (unmarked f)
   unfolding remade closed isSome
   remade-keeps disk e f c top =
       record {
@@ -281,10 +277,9 @@ module _ (g : Geometry) (s : State) (b : Book) (A : Agrees g s b) where
                     oris = λ x i _ _ r z. absurd (never-some z);
                     curs = λ x i _ _ r z. absurd (never-some z);
                   };
-              p = λ x _ _. refl;
-              q = λ x _ _. refl;
+              parity = λ x p _ _ _. refl;
               whole = λ x i j _ _ _ _ z. z;
-              two = c;
+              few = c;
               one = λ z. absurd (omega arith);
             };
         valid = record { room = omega arith; fits = omega (arith, no-marks g); modes = omega arith; zero = λ _. no-marks g; top = top };
@@ -298,7 +293,7 @@ module _ (g : Geometry) (s : State) (b : Book) (A : Agrees g s b) where
   unfolding work bookWork
   fullResync-keeps z =
       subst (λ (f : ℕ → Bool). Agrees g (remade g s (s .disk) (s .failed)) (unmarked f)) (N .failed)
-      (remade-keeps (s .disk) (all-sound N (fullResync-passed g s z)) (s .failed) (N .two) (A .valid .top))
+      (remade-keeps (s .disk) (all-sound N (fullResync-passed g s z)) (s .failed) (N .few) (A .valid .top))
 
   -- ---- resync
 
@@ -329,10 +324,9 @@ module _ (g : Geometry) (s : State) (b : Book) (A : Agrees g s b) where
             orig = N .orig;
             origs = N .origs;
             noted = N .noted;
-            p = N .p;
-            q = N .q;
+            parity = N .parity;
             whole = N .whole;
-            two = N .two;
+            few = N .few;
             one = λ q. absurd (omega arith);
           }
 
@@ -381,8 +375,7 @@ module _ (g : Geometry) (Y : InRange g) (s : State) (b : Book) (A : Agrees g s b
       (λ x i hx hi _. refill-exact z x i hx hi) (λ x _ i. refl)
       (λ i e. cases (ltb i (arrayMembers g)) (λ t. clash e (simp t)) (λ t. simp t at e))
       (λ e. simp (le-ltb (logMember g) (arrayMembers g) (omega arith)) at e)
-      (λ x t _. or-left (s .failed (memberAt g x (roleP g))) (s .failed (memberAt g x (roleQ g))) t)
-      (λ x t _. or-right (s .failed (memberAt g x (roleP g))) (s .failed (memberAt g x (roleQ g))) t)
+      (λ x p hp t _. any-none (g .parities) (λ q. s .failed (memberAt g x (parityRole g q))) t p hp)
       (λ x i hx hi. dropped-listed (s .log) lost x i ∙ (λ j. choose (parityFailed g (A .near .failed j) x) false (A .near .marks x i hx hi j)))
       (ap (arrayCleared g) (A .near .failed))
     where

@@ -265,10 +265,9 @@ module _ (g : Geometry) (s : State) (b : Book) (A : Agrees g s b) (ok : arrayFai
                     oris = λ x i hx hi r e. let a = oris x i hx hi r e in (a .0, λ _. a .1);
                     curs = λ x i hx hi r e. let a = curs x i hx hi r e in (a .0, λ _. a .1);
                   };
-              p = N .p;
-              q = N .q;
+              parity = N .parity;
               whole = whole;
-              two = N .two;
+              few = N .few;
               one = N .one;
             };
         valid =

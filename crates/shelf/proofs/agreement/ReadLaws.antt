@@ -3,31 +3,31 @@
 use mathlib.Core.Bool.{Bool, true, false, not, _&&_}
 use mathlib.Core.List.{List}
 use mathlib.Core.Option.{Option, none, some}
-use mathlib.Core.Path.{_≡_, refl, sym, ap, ap₂, _∙_, subst}
-use Prim.Native.Nat.{ℕ, _+_, _/_, _%_, _≤_, _<_}
+use mathlib.Core.Path.{_≡_, sym, ap, ap₂, _∙_, subst}
+use Prim.Native.Nat.{ℕ, _+_, _-_, _/_, _%_, _≤_, _<_}
 use native.Mathlib.Decide.{decLt}
 use native.Mathlib.Nat.{mod-lt}
 use native.Mathlib.Omega.{arith}
-use lib.Dec.{eqb, ltb}
-use borrow.Author.Tests.{eq-eqb, ne-eqb, lt-ltb, le-ltb}
+use lib.Dec.{ltb}
+use borrow.Author.Tests.{lt-ltb, le-ltb}
 use Rattle.stripe.proofs.Laws.{one-to-one}
 use Rattle.shelf.specs.Counting.{choose, count}
-use Rattle.shelf.specs.Members.{InRange, arrayMembers, allMembers, roleP, memberAt, wanted, blockP, blockQ, workedBack}
+use Rattle.shelf.specs.Members.{InRange, arrayMembers, allMembers, memberAt, wanted, blockParity, workedBack}
 use Rattle.shelf.specs.State.{State, isSome, listed, stale}
 use Rattle.shelf.specs.Status.{read, fetch, logFailed, withheld}
 use Rattle.shelf.specs.Calls.{orElse, original, missing, blockAt, code}
 use Rattle.shelf.specs.Book.{Book}
 use Rattle.shelf.specs.Lent.{bufferOf, readBuffer, fetchBuffer}
 use Rattle.shelf.specs.declared.record.Geometry.{Geometry}
-use Rattle.shelf.proofs.general.CountLaws.{any-none, count-more, no-three-roles}
+use Rattle.shelf.proofs.general.CountLaws.{any-none, count-more, no-two-roles, no-three-roles}
 use Rattle.shelf.proofs.general.TestLaws.{cases, clash, choose-true, choose-false}
 use Rattle.shelf.proofs.lent.LayoutLaws.{blocksOf-same}
-use Rattle.shelf.proofs.agreement.RowParity.{worked-exact}
+use Rattle.shelf.proofs.agreement.RowParity.{FewMissing, worked-exact}
 use Rattle.shelf.proofs.agreement.ListedLaws.{opt-cases, some-is, unlisted, ori-listed, none-listed}
 use Rattle.shelf.proofs.agreement.Agreement.{Nearly, positive}
 use Rattle.shelf.proofs.agreement.StatusLaws.{in-stripe, read-passed, fetch-passed}
 
--- Where each listed block of stripe x has an Ori: which roles are missing, of a state with at most two failed members.
+-- Where each listed block of stripe x has an Ori: which roles are missing, of a state with no more failed members than parities.
 module _ (g : Geometry) (s : State) (x : ℕ) (have : (j : ℕ) → j < g .d → s .log .ori x j ≡ none → listed (s .log) x j ≡ false) where
   pub missing-some : (j r : ℕ) → j < g .d → s .log .ori x j ≡ some r → missing g s x j ≡ false
   unfolding choose
@@ -54,25 +54,30 @@ module _ (g : Geometry) (s : State) (x : ℕ) (have : (j : ℕ) → j < g .d →
         | no h ↦ sym (missing-parity j (omega arith)) ∙ e
       ]
 
-  pub few-missing : count (arrayMembers g) (s .failed) ≤ 2 → (i j l : ℕ) → i < j → j < l → l < g .d + 2 → missing g s x i ≡ true → missing g s x j ≡ true → missing g s x l ≡ true → ⊥
-  few-missing two i j l ij jl ln ei ej el =
-      no-three-roles (arrayMembers g) (s .failed) (memberAt g x) (one-to-one (g .layout) (g .d) x .within) (one-to-one (g .layout) (g .d) x .own) two i j l ij jl ln
-      (missing-failed i ei) (missing-failed j ej) (missing-failed l el)
+  pub few-missing : g .parities ≤ 2 → count (arrayMembers g) (s .failed) ≤ g .parities → FewMissing g (missing g s x)
+  few-missing most two = (
+    λ single i j ij jn ei ej.
+        no-two-roles (arrayMembers g) (s .failed) (memberAt g x) (one-to-one (g .layout) (g .d) (g .parities) x .within) (one-to-one (g .layout) (g .d) (g .parities) x .own) (omega (arith, two, single)) i j ij jn
+        (missing-failed i ei) (missing-failed j ej),
+    λ i j l ij jl ln ei ej el.
+        no-three-roles (arrayMembers g) (s .failed) (memberAt g x) (one-to-one (g .layout) (g .d) (g .parities) x .within) (one-to-one (g .layout) (g .d) (g .parities) x .own) (omega (arith, two, most)) i j l ij jl ln
+        (missing-failed i ei) (missing-failed j ej) (missing-failed l el),
+  )
 
 module _ (g : Geometry) (Y : InRange g) (s : State) (b : Book) (A : Nearly g s b) (x : ℕ) (hx : x < g .s) where
   -- Where each listed block has an Ori, and each Ori record is its original, parity gives the originals.
   module _ (have : (j : ℕ) → j < g .d → s .log .ori x j ≡ none → listed (s .log) x j ≡ false)
       (hold : (j r : ℕ) → j < g .d → s .log .ori x j ≡ some r → s .log .value r ≡ A .orig x j) where
-    few : (i j l : ℕ) → i < j → j < l → l < g .d + 2 → missing g s x i ≡ true → missing g s x j ≡ true → missing g s x l ≡ true → ⊥
+    few : FewMissing g (missing g s x)
     few =
         let e : arrayMembers g + 1 ≡ allMembers g = omega arith in
         let c : count (arrayMembers g) (s .failed) ≤ count (allMembers g) (s .failed) =
         subst (λ (z : ℕ). count (arrayMembers g) (s .failed) ≤ count z (s .failed)) e (count-more (arrayMembers g) 1 (s .failed)) in
-        few-missing g s x have (omega (arith, A .two))
+        few-missing g s x have (Y .parities-most) (omega (arith, A .few))
 
     original-data : (j : ℕ) → j < g .d → missing g s x j ≡ false → original g s x j ≡ A .orig x j
     original-data j h e =
-        choose-true (ltb j (g .d)) (orElse (s .log .ori x j) (s .log .value) (s .disk x j)) (choose (eqb j (roleP g)) (s .p x) (s .q x))
+        choose-true (ltb j (g .d)) (orElse (s .log .ori x j) (s .log .value) (s .disk x j)) (s .parity x (j - g .d))
         (lt-ltb j (g .d) h)
         ∙ opt-cases (s .log .ori x j)
         (λ o.
@@ -80,28 +85,22 @@ module _ (g : Geometry) (Y : InRange g) (s : State) (b : Book) (A : Nearly g s b
         ∙ sym (A .noted .plain x j hx h (unlisted (s .log) x j (have j h o) .1)))
         (λ r o. ap (λ (z : Option ℕ). orElse z (s .log .value) (s .disk x j)) o ∙ hold j r h o)
 
-    original-parity : (j : ℕ) → g .d ≤ j → original g s x j ≡ choose (eqb j (roleP g)) (s .p x) (s .q x)
+    original-parity : (j : ℕ) → g .d ≤ j → original g s x j ≡ s .parity x (j - g .d)
     original-parity j h =
-        choose-false (ltb j (g .d)) (orElse (s .log .ori x j) (s .log .value) (s .disk x j)) (choose (eqb j (roleP g)) (s .p x) (s .q x))
+        choose-false (ltb j (g .d)) (orElse (s .log .ori x j) (s .log .value) (s .disk x j)) (s .parity x (j - g .d))
         (le-ltb j (g .d) h)
 
-    original-p : missing g s x (g .d) ≡ false → original g s x (g .d) ≡ blockP g (A .orig x)
-    original-p e =
-        original-parity (g .d) (omega arith) ∙ choose-true (eqb (g .d) (roleP g)) (s .p x) (s .q x) (eq-eqb (g .d) (g .d) refl)
-        ∙ A .p x hx (sym (missing-parity g s x have (g .d) (omega arith)) ∙ e)
-
-    original-q : missing g s x (g .d + 1) ≡ false → original g s x (g .d + 1) ≡ blockQ g (A .orig x)
-    original-q e =
-        original-parity (g .d + 1) (omega arith)
-        ∙ choose-false (eqb (g .d + 1) (roleP g)) (s .p x) (s .q x) (ne-eqb (g .d + 1) (g .d) (λ z. omega arith))
-        ∙ A .q x hx (sym (missing-parity g s x have (g .d + 1) (omega arith)) ∙ e)
+    original-at : (p : ℕ) → p < g .parities → missing g s x (g .d + p) ≡ false → original g s x (g .d + p) ≡ blockParity g p (A .orig x)
+    original-at p hp e =
+        original-parity (g .d + p) (omega arith) ∙ ap (s .parity x) (let z : g .d + p - g .d ≡ p = omega arith in z)
+        ∙ A .parity x p hx hp (sym (missing-parity g s x have (g .d + p) (omega arith)) ∙ e)
 
     -- a block without Ori on a failed disk
     worked-back : (i : ℕ) → i < g .d → s .log .ori x i ≡ none → s .failed (memberAt g x i) ≡ true
         → workedBack g (missing g s x) (original g s x) i ≡ A .orig x i
     worked-back i h o f =
-        worked-exact g (Y .d-most) (missing g s x) (original g s x) (A .orig x) few (λ j hj. A .origs x j hx hj)
-        original-data original-p original-q i h
+        worked-exact g (Y .d-most) (Y .parities-least) (missing g s x) (original g s x) (A .orig x) few (λ j hj. A .origs x j hx hj)
+        original-data original-at i h
         (missing-none g s x have i h o ∙ f)
 
   -- a block that is not withheld

@@ -3,35 +3,29 @@
 -- Assumes nothing.
 use mathlib.Core.Bool.{Bool, true, false, not, _&&_}
 use mathlib.Core.List.{List}
-use mathlib.Core.Logic.{_≢_}
+use mathlib.Core.Logic.{inl, inr, _≢_}
 use mathlib.Core.Path.{_≡_, sym, ap, ap₂, _∙_, subst}
 use Prim.Native.Nat.{ℕ, _+_, _*_, _≤_, _<_}
 use native.Mathlib.Decide.{decLt}
 use native.Mathlib.Omega.{arith}
 use lib.Dec.{eqb, ltb}
 use lib.ListN.{length, getD, List·getD-eq-default}
-use borrow.Author.Tests.{lt-ltb, eq-eqb, ne-eqb}
+use borrow.Author.Tests.{lt-ltb, le-ltb, eq-eqb, ne-eqb}
 use Rattle.stripe.specs.Blocks.{gen, block}
-use Rattle.stripe.specs.Parity.{made, parityP, parityQ, solved}
+use Rattle.stripe.specs.Parity.{made, parityOf, Recoverable, solved}
 use Rattle.stripe.specs.Sound.{AreBytes}
-use Rattle.stripe.proofs.Laws.{parityP-ext, parityQ-ext, zeros-obey, made-obeys, made-data, made-p, made-q, solved-exact, fits, length-block, getD-block, length-gen, getD-gen, gen-of, gen-ext}
-use Rattle.shelf.specs.Counting.{choose, any, first}
-use Rattle.shelf.specs.Members.{IsBlock, blank, column, blockP, blockQ, otherMissing, workedBack, arrayMembers}
+use Rattle.stripe.proofs.Laws.{parity-ext, zeros-obey, by-role, made-obeys, made-data, made-parity, solved-exact, fits, length-block, getD-block, length-gen, getD-gen, gen-of, gen-ext}
+use Rattle.shelf.specs.Counting.{any, first}
+use Rattle.shelf.specs.Members.{IsBlock, blank, column, blockParity, otherMissing, workedBack, arrayMembers}
 use Rattle.shelf.specs.declared.record.Geometry.{Geometry}
 use Rattle.shelf.proofs.general.CountLaws.{any-none, first-found}
-use Rattle.shelf.proofs.general.TestLaws.{cases, clash, choose-true, and-left, and-right}
+use Rattle.shelf.proofs.general.TestLaws.{cases, clash, choose-true, choose-false, and-fine, and-left, and-right}
 
-pub blockP-ext : (g : Geometry) (f h : ℕ → List ℕ) → ((i : ℕ) → i < g .d → f i ≡ h i) → blockP g f ≡ blockP g h
-unfolding blockP
-blockP-ext g f h e =
-    gen-ext (g .b) (λ j. parityP (g .d) (column f j)) (λ j. parityP (g .d) (column h j))
-    (λ j _. parityP-ext (g .d) (column f j) (column h j) (λ i p. ap (λ (v : List ℕ). getD v j 0) (e i p)))
-
-pub blockQ-ext : (g : Geometry) (f h : ℕ → List ℕ) → ((i : ℕ) → i < g .d → f i ≡ h i) → blockQ g f ≡ blockQ g h
-unfolding blockQ
-blockQ-ext g f h e =
-    gen-ext (g .b) (λ j. parityQ (g .d) (column f j)) (λ j. parityQ (g .d) (column h j))
-    (λ j _. parityQ-ext (g .d) (column f j) (column h j) (λ i p. ap (λ (v : List ℕ). getD v j 0) (e i p)))
+pub blockParity-ext : (g : Geometry) (p : ℕ) (f h : ℕ → List ℕ) → ((i : ℕ) → i < g .d → f i ≡ h i) → blockParity g p f ≡ blockParity g p h
+unfolding blockParity
+blockParity-ext g p f h e =
+    gen-ext (g .b) (λ j. parityOf p (g .d) (column f j)) (λ j. parityOf p (g .d) (column h j))
+    (λ j _. parity-ext p (g .d) (column f j) (column h j) (λ i l. ap (λ (v : List ℕ). getD v j 0) (e i l)))
 
 -- ---- zeros
 
@@ -39,20 +33,11 @@ blank-byte : (g : Geometry) (j : ℕ) → j < g .b → getD (blank g) j 0 ≡ 0
 unfolding blank
 blank-byte g j h = getD-gen (g .b) (λ _. 0) j h
 
-pub blankP : (g : Geometry) → blockP g (λ _. blank g) ≡ blank g
-unfolding blockP
-blankP g =
-    sym (gen-of (g .b) (λ j. parityP (g .d) (column (λ _. blank g) j)) (blank g) (blank-length g)
-    (λ j h. blank-byte g j h ∙ sym (sym (zeros-obey (g .d) (column (λ _. blank g) j) (λ i _. blank-byte g j h) .p) ∙ blank-byte g j h)))
-  where
-    blank-length : (g : Geometry) → length (blank g) ≡ g .b
-    blank-length g = unfold blank in length-gen (g .b) (λ _. 0)
-
-pub blankQ : (g : Geometry) → blockQ g (λ _. blank g) ≡ blank g
-unfolding blockQ
-blankQ g =
-    sym (gen-of (g .b) (λ j. parityQ (g .d) (column (λ _. blank g) j)) (blank g) (blank-length g)
-    (λ j h. blank-byte g j h ∙ sym (sym (zeros-obey (g .d) (column (λ _. blank g) j) (λ i _. blank-byte g j h) .q) ∙ blank-byte g j h)))
+pub blankParity : (g : Geometry) (p : ℕ) → blockParity g p (λ _. blank g) ≡ blank g
+unfolding blockParity
+blankParity g p =
+    sym (gen-of (g .b) (λ j. parityOf p (g .d) (column (λ _. blank g) j)) (blank g) (blank-length g)
+    (λ j h. blank-byte g j h ∙ sym (sym (zeros-obey (g .d) (p + 1) (column (λ _. blank g) j) (λ i _. blank-byte g j h) .each p (omega arith)) ∙ blank-byte g j h)))
   where
     blank-length : (g : Geometry) → length (blank g) ≡ g .b
     blank-length g = unfold blank in length-gen (g .b) (λ _. 0)
@@ -101,66 +86,84 @@ unordered n m few i j l hi hj hl ij il jl ei ej el =
       ]
     ]
 
+-- no more roles are missing than there are parities
+abbrev pub FewMissing : Geometry → (ℕ → Bool) → Type 0
+FewMissing g missing =
+    (g .parities ≡ 1 → (i j : ℕ) → i < j → j < arrayMembers g → missing i ≡ true → missing j ≡ true → ⊥)
+    × ((i j l : ℕ) → i < j → j < l → l < arrayMembers g → missing i ≡ true → missing j ≡ true → missing l ≡ true → ⊥)
+
+-- the other missing role: with two parities the lowest, with one none
 module _ (g : Geometry) (missing : ℕ → Bool) (i : ℕ) where
   abbrev found : ℕ
   found = first (arrayMembers g) (λ n. missing n && not (eqb n i))
+
+  pub other-first : 1 < g .parities → first (arrayMembers g) (λ n. missing n && not (eqb n i)) < arrayMembers g
+      → otherMissing g missing i ≡ first (arrayMembers g) (λ n. missing n && not (eqb n i))
+  unfolding otherMissing
+  other-first two there =
+      choose-true (ltb 1 (g .parities) && ltb found (arrayMembers g)) found i (ap₂ _&&_ (lt-ltb 1 (g .parities) two) (lt-ltb found (arrayMembers g) there))
+
+  pub other-none : arrayMembers g ≤ first (arrayMembers g) (λ n. missing n && not (eqb n i)) → otherMissing g missing i ≡ i
+  unfolding otherMissing
+  other-none past =
+      choose-false (ltb 1 (g .parities) && ltb found (arrayMembers g)) found i
+      (and-fine (ltb 1 (g .parities)) (ltb found (arrayMembers g)) (λ _. le-ltb found (arrayMembers g) past))
+
+  pub other-one : g .parities ≤ 1 → otherMissing g missing i ≡ i
+  unfolding otherMissing
+  other-one one =
+      choose-false (ltb 1 (g .parities) && ltb found (arrayMembers g)) found i
+      (ap (λ (t : Bool). t && ltb found (arrayMembers g)) (le-ltb 1 (g .parities) one))
+
+  pub other-few : Recoverable (g .parities) i (otherMissing g missing i)
+  other-few = elim (decLt 1 (g .parities)) [ yes l ↦ inr l | no l ↦ inl (sym (other-one (omega arith))) ]
 
   not-eqb : (n : ℕ) → not (eqb n i) ≡ true → n ≢ i
   not-eqb n e q = clash e (ap not (eq-eqb n i q))
 
   -- a role that is neither i nor the other missing one is there
-  pub rest-there : ((i j l : ℕ) → i < j → j < l → l < g .d + 2 → missing i ≡ true → missing j ≡ true → missing l ≡ true → ⊥) → i < g .d → missing i ≡ true
-      → (n : ℕ) → n < g .d + 2 → n ≢ i → n ≢ otherMissing g missing i → missing n ≡ false
-  unfolding otherMissing
-  rest-there few hi mi n hn ni ny =
-      cases (any (g .d + 2) (λ k. missing k && not (eqb k i)))
-      (λ t.
-      let f = first-found (g .d + 2) (λ k. missing k && not (eqb k i)) t in
-      let e : choose (ltb found (g .d + 2)) found i ≡ found = choose-true (ltb found (g .d + 2)) found i (lt-ltb found (g .d + 2) (f .0)) in
-      cases (missing n)
-      (λ m. absurd (unordered (g .d + 2) missing few i found n (omega arith) (f .0) hn
-      (λ q. not-eqb found (and-right (missing found) (not (eqb found i)) (f .1)) (sym q)) (λ q. ni (sym q)) (λ q. ny (sym q ∙ sym e))
-      mi (and-left (missing found) (not (eqb found i)) (f .1)) m))
-      (λ m. m))
-      (λ t.
-      cases (missing n)
-      (λ m. clash (ap₂ _&&_ m (ap not (ne-eqb n i ni))) (any-none (g .d + 2) (λ k. missing k && not (eqb k i)) t n hn))
-      (λ m. m))
+  pub rest-there : 1 ≤ g .parities → FewMissing g missing → i < g .d → missing i ≡ true
+      → (n : ℕ) → n < g .d + g .parities → n ≢ i → n ≢ otherMissing g missing i → missing n ≡ false
+  rest-there some few hi mi n hn ni ny =
+      cases (missing n) (λ m. elim (decLt 1 (g .parities)) [ yes l ↦ two m l | no l ↦ one m (omega arith) ]) (λ m. m)
+    where
+      two : missing n ≡ true → 1 < g .parities → missing n ≡ false
+      two m k =
+          cases (any (arrayMembers g) (λ k. missing k && not (eqb k i)))
+          (λ t.
+          let f = first-found (arrayMembers g) (λ k. missing k && not (eqb k i)) t in
+          let e : otherMissing g missing i ≡ found = other-first k (f .0) in
+          absurd (unordered (arrayMembers g) missing (few .1) i found n (omega arith) (f .0) hn
+          (λ q. not-eqb found (and-right (missing found) (not (eqb found i)) (f .1)) (sym q)) (λ q. ni (sym q)) (λ q. ny (sym q ∙ sym e))
+          mi (and-left (missing found) (not (eqb found i)) (f .1)) m))
+          (λ t. clash (ap₂ _&&_ m (ap not (ne-eqb n i ni))) (any-none (arrayMembers g) (λ k. missing k && not (eqb k i)) t n hn))
 
-pub worked-exact : (g : Geometry) → g .d ≤ 16 → (missing : ℕ → Bool) (r row : ℕ → List ℕ)
-    → ((i j l : ℕ) → i < j → j < l → l < g .d + 2 → missing i ≡ true → missing j ≡ true → missing l ≡ true → ⊥)
+      one : missing n ≡ true → g .parities ≡ 1 → missing n ≡ false
+      one m single =
+          elim (decLt i n) [ yes p ↦ absurd (few .0 single i n p hn mi m) | no p ↦ absurd (few .0 single n i (omega arith) (omega arith) m mi) ]
+
+pub worked-exact : (g : Geometry) → g .d ≤ 16 → 1 ≤ g .parities → (missing : ℕ → Bool) (r row : ℕ → List ℕ)
+    → FewMissing g missing
     → ((i : ℕ) → i < g .d → IsBlock g (row i))
     → ((i : ℕ) → i < g .d → missing i ≡ false → r i ≡ row i)
-    → (missing (g .d) ≡ false → r (g .d) ≡ blockP g row)
-    → (missing (g .d + 1) ≡ false → r (g .d + 1) ≡ blockQ g row)
+    → ((p : ℕ) → p < g .parities → missing (g .d + p) ≡ false → r (g .d + p) ≡ blockParity g p row)
     → (i : ℕ) → i < g .d → missing i ≡ true → workedBack g missing r i ≡ row i
 unfolding workedBack
-worked-exact g hd missing r row few proper there-data there-p there-q i hi mi =
+worked-exact g hd some missing r row few proper there-data there-parity i hi mi =
     sym (gen-of (g .b) (λ j. solved (g .d) i (otherMissing g missing i) (column r j)) (row i) (proper i hi .0) byte)
   where
-    column-p : (j : ℕ) → j < g .b → r (g .d) ≡ blockP g row → getD (r (g .d)) j 0 ≡ parityP (g .d) (column row j)
-    column-p j hj e = ap (λ (v : List ℕ). getD v j 0) e ∙ unfold blockP in getD-gen (g .b) (λ k. parityP (g .d) (column row k)) j hj
+    column-parity : (p j : ℕ) → j < g .b → r (g .d + p) ≡ blockParity g p row → getD (r (g .d + p)) j 0 ≡ parityOf p (g .d) (column row j)
+    column-parity p j hj e = ap (λ (v : List ℕ). getD v j 0) e ∙ unfold blockParity in getD-gen (g .b) (λ k. parityOf p (g .d) (column row k)) j hj
 
-    column-q : (j : ℕ) → j < g .b → r (g .d + 1) ≡ blockQ g row → getD (r (g .d + 1)) j 0 ≡ parityQ (g .d) (column row j)
-    column-q j hj e = ap (λ (v : List ℕ). getD v j 0) e ∙ unfold blockQ in getD-gen (g .b) (λ k. parityQ (g .d) (column row k)) j hj
-
-    same : (j : ℕ) → j < g .b → (n : ℕ) → n < g .d + 2 → n ≢ i → n ≢ otherMissing g missing i → column r j n ≡ made (g .d) (column row j) n
+    same : (j : ℕ) → j < g .b → (n : ℕ) → n < g .d + g .parities → n ≢ i → n ≢ otherMissing g missing i → column r j n ≡ made (g .d) (column row j) n
     same j hj n hn ni ny =
-        let m : missing n ≡ false = rest-there g missing i few hi mi n hn ni ny in
-        elim (decLt n (g .d)) [
-          | yes p ↦ ap (λ (v : List ℕ). getD v j 0) (there-data n p m) ∙ sym (made-data (g .d) (column row j) n p)
-          | no p ↦ elim (decLt n (g .d + 1)) [
-            | yes q ↦
-                let e : n ≡ g .d = omega arith in
-                ap (column r j) e ∙ column-p j hj (there-p (ap missing (sym e) ∙ m)) ∙ sym (made-p (g .d) (column row j)) ∙ ap (made (g .d) (column row j)) (sym e)
-            | no q ↦
-                let e : n ≡ g .d + 1 = omega arith in
-                ap (column r j) e ∙ column-q j hj (there-q (ap missing (sym e) ∙ m)) ∙ sym (made-q (g .d) (column row j)) ∙ ap (made (g .d) (column row j)) (sym e)
-          ]
-        ]
+        let m : missing n ≡ false = rest-there g missing i some few hi mi n hn ni ny in
+        by-role (g .d) n (λ k. column r j k ≡ made (g .d) (column row j) k)
+        (λ p. ap (λ (v : List ℕ). getD v j 0) (there-data n p m) ∙ sym (made-data (g .d) (column row j) n p))
+        (λ p e. column-parity p j hj (there-parity p (omega arith) (ap missing (sym e) ∙ m)) ∙ sym (made-parity (g .d) (column row j) p))
 
     byte : (j : ℕ) → j < g .b → getD (row i) j 0 ≡ solved (g .d) i (otherMissing g missing i) (column r j)
     byte j hj =
-        sym (solved-exact (g .d) i (otherMissing g missing i) (made (g .d) (column row j)) (column r j) hd
-        (λ n p. subst (λ (v : ℕ). v < 256) (sym (made-data (g .d) (column row j) n p)) (proper n p .1 j)) (made-obeys (g .d) (column row j)) (same j hj) hi
+        sym (solved-exact (g .d) (g .parities) i (otherMissing g missing i) (made (g .d) (column row j)) (column r j) hd some (other-few g missing i)
+        (λ n p. subst (λ (v : ℕ). v < 256) (sym (made-data (g .d) (column row j) n p)) (proper n p .1 j)) (made-obeys (g .d) (g .parities) (column row j)) (same j hj) hi
         ∙ made-data (g .d) (column row j) i hi)

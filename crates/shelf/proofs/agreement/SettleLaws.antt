@@ -9,14 +9,14 @@ use native.Mathlib.Omega.{arith}
 use lib.Dec.{eqb}
 use borrow.Author.Tests.{eq-eqb, eqb-true, eqb-false}
 use Rattle.shelf.specs.Counting.{choose, setAt}
-use Rattle.shelf.specs.Members.{logMember, allMembers, roleP, roleQ, memberAt}
+use Rattle.shelf.specs.Members.{logMember, allMembers, parityRole, memberAt}
 use Rattle.shelf.specs.State.{State, isSome, listed, marksIn}
 use Rattle.shelf.specs.Calls.{withFlags, nextLeft, modeLeft, settled, dropped, afresh, made}
 use Rattle.shelf.specs.Book.{Book, closed}
 use Rattle.shelf.specs.declared.record.Geometry.{Geometry}
 use Rattle.shelf.proofs.general.CountLaws.{count-mono}
 use Rattle.shelf.proofs.general.TestLaws.{cases, clash, false-is, and-left, and-right, choose-true, choose-false}
-use Rattle.shelf.proofs.agreement.RowParity.{blockP-ext, blockQ-ext}
+use Rattle.shelf.proofs.agreement.RowParity.{blockParity-ext}
 use Rattle.shelf.proofs.agreement.ListedLaws.{never-some, ori-listed, cur-listed, marksIn-ext, marks-none, dropped-fewer}
 use Rattle.shelf.proofs.agreement.Agreement.{AreBlocks, Nearly, Valid, Agrees}
 
@@ -72,10 +72,9 @@ settled-agrees g s b A W = record { near = near; valid = valid; idle = idle }
                 oris = λ x i hx hi r e. let w = A .noted .oris x i hx hi r e in (below x i r hx hi (ori-listed (s .log) x i r e) (w .0), w .1);
                 curs = λ x i hx hi r e. let w = A .noted .curs x i hx hi r e in (below x i r hx hi (cur-listed (s .log) x i r e) (w .0), w .1);
               };
-          p = A .p;
-          q = A .q;
+          parity = A .parity;
           whole = A .whole;
-          two = A .two;
+          few = A .few;
           one = λ e. A .one (was-one e);
         }
 
@@ -125,17 +124,16 @@ closed-already g s b A = λ i. record { marks = b .state .marks; used = e i; mod
         absurd (A .idle (same ∙ u) .1 (A .near .mode ∙ v)))
         (λ z. choose-false (eqb (marksIn g (b .state .marks)) 0 && eqb (b .state .mode) 2) 0 (b .state .mode) z)
 
--- ---- P and Q made afresh in the stripes that pass the test t
+-- ---- parity made afresh in the stripes that pass the test t
 
 -- With new disks, blocks held and flags f. The disks of those stripes and all sound disks hold what is held, which in the other stripes is as it
--- was. No member fails; the log, and P and Q of the other stripes, are sound only where they were.
+-- was. No member fails; the log, and the parities of the other stripes, are sound only where they were.
 module _ (g : Geometry) (s : State) (b : Book) (A : Nearly g s b) (W : Valid g s) (t : ℕ → Bool) (disk held : ℕ → ℕ → List ℕ) (proper : AreBlocks g held)
     {f f' : ℕ → Bool} {marks : ℕ → ℕ → Bool}
     (exact : (x i : ℕ) → x < g .s → i < g .d → (t x ≡ true) ⊎ (f (memberAt g x i) ≡ false) → disk x i ≡ held x i)
     (kept : (x : ℕ) → t x ≡ false → (i : ℕ) → held x i ≡ b .held x i)
     (fewer : (i : ℕ) → f i ≡ true → s .failed i ≡ true) (log-was : f (logMember g) ≡ false → s .failed (logMember g) ≡ false)
-    (p-was : (x : ℕ) → t x ≡ false → f (memberAt g x (roleP g)) ≡ false → s .failed (memberAt g x (roleP g)) ≡ false)
-    (q-was : (x : ℕ) → t x ≡ false → f (memberAt g x (roleQ g)) ≡ false → s .failed (memberAt g x (roleQ g)) ≡ false)
+    (parity-was : (x p : ℕ) → p < g .parities → t x ≡ false → f (memberAt g x (parityRole g p)) ≡ false → s .failed (memberAt g x (parityRole g p)) ≡ false)
     (same-marks : (x i : ℕ) → x < g .s → i < g .d → listed (dropped (s .log) t) x i ≡ marks x i) (same-flags : f ≡ f') where
   -- a member that was sound is
   still : (i : ℕ) → s .failed i ≡ false → f i ≡ false
@@ -167,17 +165,13 @@ module _ (g : Geometry) (s : State) (b : Book) (A : Nearly g s b) (W : Valid g s
                   (λ e. absurd (never-some (simp e at c)))
                   (λ e. let w = A .noted .curs x i hx hi r (simp e at c) in (w .0, λ l. w .1 (log-was l) ∙ sym (kept x e i)));
             };
-        p = λ x hx u.
+        parity = λ x p hx hp u.
             cases (t x)
-            (λ e. simp e (blockP-ext g (disk x) (held x) (λ i hi. exact x i hx hi (inl e))))
-            (λ e. simp e (A .p x hx (p-was x e u)));
-        q = λ x hx u.
-            cases (t x)
-            (λ e. simp e (blockQ-ext g (disk x) (held x) (λ i hi. exact x i hx hi (inl e))))
-            (λ e. simp e (A .q x hx (q-was x e u)));
+            (λ e. simp e (blockParity-ext g p (disk x) (held x) (λ i hi. exact x i hx hi (inl e))))
+            (λ e. simp e (A .parity x p hx hp (parity-was x p hp e u)));
         whole = λ x i j hx hi hj o l.
             cases (t x) (λ e. clash l (simp e)) (λ e. simp e (A .whole x i j hx hi hj (simp e at o) (simp e at l)));
-        two = omega (arith, A .two, count-mono (allMembers g) f (s .failed) (λ i _. fewer i));
+        few = omega (arith, A .few, count-mono (allMembers g) f (s .failed) (λ i _. fewer i));
         one = λ e. still (logMember g) (A .one e);
       })
       (record {
@@ -203,5 +197,5 @@ module _ (g : Geometry) (s : State) (b : Book) (A : Nearly g s b) (W : Valid g s
       cases (eqb x t)
       (λ e. simp e (here i hi ∙ ap (λ (z : ℕ). held z i) (sym (eqb-true x t e))))
       (λ e. simp e (A .sound x i hx hi (⊎-elim (λ y. clash y e) (λ u. u) o) ∙ sym (there x (eqb-false x t e) i))))
-      (λ x e. there x (eqb-false x t e)) (λ i e. e) (λ e. e) (λ x _ e. e) (λ x _ e. e)
+      (λ x e. there x (eqb-false x t e)) (λ i e. e) (λ e. e) (λ x p _ _ e. e)
       (λ x i hx hi. cases (eqb x t) (λ e. simp e) (λ e. simp e (A .marks x i hx hi))) (A .failed)

@@ -12,7 +12,7 @@ use borrow.Author.Tests.{ltb-false, eqb-true, leb-false, not-false}
 use Rattle.shelf.specs.Counting.{count}
 use Rattle.shelf.specs.Members.{InRange, logMember, allMembers, memberAt, addresses, wanted}
 use Rattle.shelf.specs.State.{State, listed, marksIn}
-use Rattle.shelf.specs.Status.{Call, start, fail, write, read, fetch, resync, rebuild, newLog, fullResync, badAddress, badData, badMember, notNormal, isNormal, arrayFailed, logFailed, alreadyFailed, twoFailed, arraySound, logSound, someListed, withheld, fetchWithheld, dataWithheld, readFailed, row, codeOf}
+use Rattle.shelf.specs.Status.{Call, start, fail, write, read, fetch, resync, rebuild, newLog, fullResync, badAddress, badData, badMember, notNormal, isNormal, arrayFailed, logFailed, alreadyFailed, limitReached, arraySound, logSound, someListed, withheld, fetchWithheld, dataWithheld, readFailed, row, codeOf}
 use Rattle.shelf.specs.Calls.{code}
 use Rattle.shelf.specs.Book.{Book, bookCode}
 use Rattle.shelf.specs.declared.record.Geometry.{Geometry}
@@ -39,12 +39,12 @@ module _ (g : Geometry) (s : State) where
       let r8 = row-zero 8 (arrayFailed g (s .failed)) _ (λ e. omega arith) (r7 .1) in
       (r8 .0, row-zero 9 (logFailed g (s .failed)) 0 (λ e. omega arith) (r8 .1) .0)
 
-  pub fail-passed : (j : ℕ) → code g (fail j) s ≡ 0 → (j ≤ logMember g) × ((s .failed j ≡ false) × (count (allMembers g) (s .failed) < 2))
+  pub fail-passed : (j : ℕ) → code g (fail j) s ≡ 0 → (j ≤ logMember g) × ((s .failed j ≡ false) × (count (allMembers g) (s .failed) < g .parities))
   unfolding codeOf
   fail-passed j z =
       let r6 = row-zero 6 (badMember g j) _ (λ e. omega arith) z in
       let r10 = row-zero 10 (alreadyFailed (s .failed) j) _ (λ e. omega arith) (r6 .1) in
-      let r11 = row-zero 11 (twoFailed g (s .failed)) 0 (λ e. omega arith) (r10 .1) in
+      let r11 = row-zero 11 (limitReached g (s .failed)) 0 (λ e. omega arith) (r10 .1) in
       (ltb-false _ _ (r6 .0), (r10 .0, leb-false _ _ (r11 .0)))
 
   pub write-passed : (a n : ℕ) (v : List ℕ) → code g (write a n v) s ≡ 0 → (length v ≡ n * g .b) × (arrayFailed g (s .failed) ≡ false)

@@ -5,7 +5,7 @@ use mathlib.Core.List.{List, _++_}
 use mathlib.Core.Logic.{_≢_}
 use mathlib.Core.Option.{Option}
 use mathlib.Core.Path.{_≡_, refl, sym, ap, ap₂, _∙_, subst}
-use Prim.Native.Nat.{ℕ, _+_, _*_, _≤_, _<_}
+use Prim.Native.Nat.{ℕ, _+_, _-_, _*_, _≤_, _<_}
 use native.Mathlib.Nat.{mul-le-mul-right}
 use native.Mathlib.Decide.{ℕ-discrete}
 use native.Mathlib.Omega.{arith}
@@ -13,12 +13,12 @@ use lib.Dec.{eqb, ltb}
 use lib.ListN.{length, getD}
 use borrow.Author.Tests.{lt-ltb, le-ltb, eq-eqb, ne-eqb, ltb-true, ltb-false, eqb-true}
 use Rattle.stripe.specs.Blocks.{gen, block, put, byteOf}
-use Rattle.stripe.specs.Parity.{solved}
-use Rattle.stripe.specs.Places.{numbered, columnAt, byColumn, Tabled}
+use Rattle.stripe.specs.Parity.{Recoverable, solved}
+use Rattle.stripe.specs.Places.{numbered, columnAt, byColumn, Tabled, Held}
 use Rattle.stripe.specs.Steps.{Gathers}
 use Rattle.stripe.proofs.Laws.{place-lt, array-byte, log-byte, solved-ignores, fits, length-block, getD-block, block-whole, length-gen, gen-ext, block-put-same, block-put-other, length-put}
 use Rattle.shelf.specs.Counting.{choose}
-use Rattle.shelf.specs.Members.{arrayMembers, memberAt, placeAt, wanted, roleP, addressOf, column, otherMissing, workedBack}
+use Rattle.shelf.specs.Members.{arrayMembers, memberAt, placeAt, wanted, addressOf, column, otherMissing, workedBack}
 use Rattle.shelf.specs.Calls.{orElse, original, blockAt}
 use Rattle.shelf.specs.Words.{words}
 use Rattle.shelf.specs.HashList.{noneWord, said, isRecord}
@@ -67,7 +67,7 @@ module _ (c o : ℕ) (f : ℕ → List ℕ) (z : List ℕ) (v : ℕ) (e : v ≡ 
 pub place-room : (g : Geometry) (a : List ℕ) → length a ≡ arrayLength g → (x i k : ℕ) → x < g .s → i < arrayMembers g → k ≡ placeAt g x i → k * g .b + g .b ≤ length a
 place-room g a long x i k hx hi e =
     subst (λ (m : ℕ). m * g .b + g .b ≤ length a) (sym e)
-    (fits (placeAt g x i) ((g .d + 2) * g .s) (g .b) a long (place-lt (g .layout) (g .d) (g .s) x i hx hi))
+    (fits (placeAt g x i) ((g .d + g .parities) * g .s) (g .b) a long (place-lt (g .layout) (g .d) (g .parities) (g .s) x i hx hi))
 
 -- ---- one stripe of what is lent
 
@@ -92,45 +92,49 @@ module _ (r : Shelf) (a n l : List ℕ) (R : Ready (lent r a n l)) (x : ℕ) (hx
       omega (arith, low, R .listing .room)
 
   -- the block numbers lie within array and log
-  number-low : (i : ℕ) → i < r .geometry .d + 2 → originalPlace (r .geometry) l x i < (r .geometry .d + 2) * r .geometry .s + r .geometry .l
+  number-low : (i : ℕ) → i < r .geometry .d + r .geometry .parities → originalPlace (r .geometry) l x i < (r .geometry .d + r .geometry .parities) * r .geometry .s + r .geometry .l
   number-low i h =
       ori-or-array i
-      (λ hi u. subst (λ (k : ℕ). k < (r .geometry .d + 2) * r .geometry .s + r .geometry .l)
+      (λ hi u. subst (λ (k : ℕ). k < (r .geometry .d + r .geometry .parities) * r .geometry .s + r .geometry .l)
       (number-log (r .geometry) l x i hi (said (words l) (r .geometry) (addressOf (r .geometry) x i) .ori) refl u) (let low = ori-low i u in omega (arith, low)))
-      (λ e. subst (λ (k : ℕ). k < (r .geometry .d + 2) * r .geometry .s + r .geometry .l) (number-array (r .geometry) l x i e)
-      (let low = place-lt (r .geometry .layout) (r .geometry .d) (r .geometry .s) x i hx h in omega (arith, low)))
+      (λ e. subst (λ (k : ℕ). k < (r .geometry .d + r .geometry .parities) * r .geometry .s + r .geometry .l) (number-array (r .geometry) l x i e)
+      (let low = place-lt (r .geometry .layout) (r .geometry .d) (r .geometry .parities) (r .geometry .s) x i hx h in omega (arith, low)))
 
-  pub gathers : (ns work : List ℕ) → r .geometry .d + 2 ≤ length ns → Tabled (r .geometry .d + 2) (originalPlace (r .geometry) l x) ns
-      → length work ≡ r .geometry .b → Gathers (r .geometry .d) ((r .geometry .d + 2) * r .geometry .s) (r .geometry .b) a n ns work
+  -- the table holds every role
+  pub held-all : (ns : List ℕ) → r .geometry .d + r .geometry .parities ≤ length ns → Tabled (r .geometry .d + r .geometry .parities) (originalPlace (r .geometry) l x) ns
+      → (m : ℕ) → m ≤ r .geometry .d + r .geometry .parities → Held m (r .geometry .b) (length a + length n) ns
+  held-all ns long tab m hm =
+      record {
+        long = omega arith;
+        within = λ i h.
+            let low : getD ns i 0 < (r .geometry .d + r .geometry .parities) * r .geometry .s + r .geometry .l =
+            subst (λ (k : ℕ). k < (r .geometry .d + r .geometry .parities) * r .geometry .s + r .geometry .l) (sym (tab i (omega arith))) (number-low i (omega arith)) in
+            let m = mul-le-mul-right (r .geometry .b) low in
+            omega (arith, m, R .array, R .log);
+      }
+
+  pub gathers : (ns work : List ℕ) → r .geometry .d + r .geometry .parities ≤ length ns → Tabled (r .geometry .d + r .geometry .parities) (originalPlace (r .geometry) l x) ns
+      → length work ≡ r .geometry .b → Gathers (r .geometry .d) ((r .geometry .d + r .geometry .parities) * r .geometry .s) (r .geometry .b) a n ns work
   gathers ns work long tab len =
       record {
         data-most = R .listing .range .d-most;
         whole = R .array;
-        held = record {
-          long = long;
-          within = λ i h.
-              let low : getD ns i 0 < (r .geometry .d + 2) * r .geometry .s + r .geometry .l =
-              subst (λ (k : ℕ). k < (r .geometry .d + 2) * r .geometry .s + r .geometry .l) (sym (tab i h)) (number-low i h) in
-              let m = mul-le-mul-right (r .geometry .b) low in
-              omega (arith, m, R .array, R .log);
-        };
+        held = held-all ns long tab (r .geometry .d + 1) (omega (arith, R .listing .range .parities-least));
         working = len;
       }
 
   -- an original that is not in the log is the array's block
-  original-array : (i : ℕ) → i < r .geometry .d + 2 → (i < r .geometry .d → said (words l) (r .geometry) (addressOf (r .geometry) x i) .ori ≡ noneWord)
+  original-array : (i : ℕ) → i < r .geometry .d + r .geometry .parities → (i < r .geometry .d → said (words l) (r .geometry) (addressOf (r .geometry) x i) .ori ≡ noneWord)
       → original (r .geometry) (stateOf (lent r a n l)) x i ≡ arrayBlock (r .geometry) a x i
   unfolding stateOf
   original-array =
       let g = r .geometry in
       let s = stateOf (lent r a n l) in
       by-role g (λ i. (i < g .d → said (words l) g (addressOf g x i) .ori ≡ noneWord) → original g s x i ≡ arrayBlock g a x i)
-      (λ i h e. choose-true (ltb i (g .d)) (orElse (oriBy g l x i) (s .log .value) (s .disk x i)) (choose (eqb i (roleP g)) (s .p x) (s .q x)) (lt-ltb i (g .d) h)
+      (λ i h e. choose-true (ltb i (g .d)) (orElse (oriBy g l x i) (s .log .value) (s .disk x i)) (s .parity x (i - g .d)) (lt-ltb i (g .d) h)
       ∙ ap (λ (k : Option ℕ). orElse k (s .log .value) (s .disk x i)) (record-none (said (words l) g (addressOf g x i) .ori) (e h)))
-      (λ e. choose-false (ltb (g .d) (g .d)) (orElse (oriBy g l x (g .d)) (s .log .value) (s .disk x (g .d))) (choose (eqb (g .d) (roleP g)) (s .p x) (s .q x)) (le-ltb (g .d) (g .d) (omega arith))
-      ∙ choose-true (eqb (g .d) (roleP g)) (s .p x) (s .q x) (eq-eqb (g .d) (g .d) refl))
-      (λ e. choose-false (ltb (g .d + 1) (g .d)) (orElse (oriBy g l x (g .d + 1)) (s .log .value) (s .disk x (g .d + 1))) (choose (eqb (g .d + 1) (roleP g)) (s .p x) (s .q x)) (le-ltb (g .d + 1) (g .d) (omega arith))
-      ∙ choose-false (eqb (g .d + 1) (roleP g)) (s .p x) (s .q x) (ne-eqb (g .d + 1) (g .d) (λ z. omega arith)))
+      (λ p hp e. choose-false (ltb (g .d + p) (g .d)) (orElse (oriBy g l x (g .d + p)) (s .log .value) (s .disk x (g .d + p))) (s .parity x (g .d + p - g .d)) (le-ltb (g .d + p) (g .d) (omega arith))
+      ∙ ap (s .parity x) (let z : g .d + p - g .d ≡ p = omega arith in z))
 
   original-log : (i : ℕ) → i < r .geometry .d → said (words l) (r .geometry) (addressOf (r .geometry) x i) .ori ≢ noneWord
       → original (r .geometry) (stateOf (lent r a n l)) x i ≡ block (r .geometry .b) (said (words l) (r .geometry) (addressOf (r .geometry) x i) .ori) n
@@ -138,11 +142,11 @@ module _ (r : Shelf) (a n l : List ℕ) (R : Ready (lent r a n l)) (x : ℕ) (hx
   original-log i h u =
       let g = r .geometry in
       let s = stateOf (lent r a n l) in
-      choose-true (ltb i (g .d)) (orElse (oriBy g l x i) (s .log .value) (s .disk x i)) (choose (eqb i (roleP g)) (s .p x) (s .q x)) (lt-ltb i (g .d) h)
+      choose-true (ltb i (g .d)) (orElse (oriBy g l x i) (s .log .value) (s .disk x i)) (s .parity x (i - g .d)) (lt-ltb i (g .d) h)
       ∙ ap (λ (k : Option ℕ). orElse k (s .log .value) (s .disk x i)) (record-some (said (words l) g (addressOf g x i) .ori) u)
 
   -- the table's blocks are the originals
-  original-byte : (i j : ℕ) → i < r .geometry .d + 2 → j < r .geometry .b
+  original-byte : (i j : ℕ) → i < r .geometry .d + r .geometry .parities → j < r .geometry .b
       → byteOf (r .geometry .b) (a ++ n) (originalPlace (r .geometry) l x i) j ≡ getD (original (r .geometry) (stateOf (lent r a n l)) x i) j 0
   unfolding byteOf
   original-byte i j h hj =
@@ -151,25 +155,25 @@ module _ (r : Shelf) (a n l : List ℕ) (R : Ready (lent r a n l)) (x : ℕ) (hx
       (λ hi u.
       let v : ℕ = said (words l) g (addressOf g x i) .ori in
       ap (λ (k : ℕ). byteOf (g .b) (a ++ n) k j) (sym (number-log g l x i hi v refl u))
-      ∙ log-byte (g .b) ((g .d + 2) * g .s) a n (R .array) v j
+      ∙ log-byte (g .b) ((g .d + g .parities) * g .s) a n (R .array) v j
       ∙ sym (getD-block (g .b) v n j hj)
       ∙ ap (λ (k : List ℕ). getD k j 0) (sym (original-log i hi u)))
       (λ e.
       ap (λ (k : ℕ). byteOf (g .b) (a ++ n) k j) (sym (number-array g l x i e))
-      ∙ array-byte (g .b) ((g .d + 2) * g .s) a n (R .array) (placeAt g x i) j (place-lt (g .layout) (g .d) (g .s) x i hx h) hj
+      ∙ array-byte (g .b) ((g .d + g .parities) * g .s) a n (R .array) (placeAt g x i) j (place-lt (g .layout) (g .d) (g .parities) (g .s) x i hx h) hj
       ∙ sym (getD-block (g .b) (placeAt g x i) a j hj)
       ∙ ap (λ (k : List ℕ). getD k j 0) (sym (original-array i h e)))
 
   -- what is gathered by the table is gathered of the originals
-  pub worked-by : (i y : ℕ) (ns work : List ℕ) → i < r .geometry .d → Tabled (r .geometry .d + 2) (originalPlace (r .geometry) l x) ns
+  pub worked-by : (i y : ℕ) (ns work : List ℕ) → i < r .geometry .d → Recoverable (r .geometry .parities) i y → Tabled (r .geometry .d + r .geometry .parities) (originalPlace (r .geometry) l x) ns
       → work ≡ gen (r .geometry .b) (byColumn (solved (r .geometry .d) i y) (numbered ns) (r .geometry .b) (a ++ n)) → work ≡ solvedBlock (lent r a n l) x i y
   unfolding byColumn columnAt numbered solvedBlock
-  worked-by i y ns work hi tab is =
+  worked-by i y ns work hi few tab is =
       let g = r .geometry in
       is ∙ gen-ext (g .b) (λ j. solved (g .d) i y (columnAt (numbered ns) (g .b) (a ++ n) j))
       (λ j. solved (g .d) i y (column (original g (stateOf (lent r a n l)) x) j))
       (λ j hj.
-      solved-ignores (g .d) i y (columnAt (numbered ns) (g .b) (a ++ n) j) (column (original g (stateOf (lent r a n l)) x) j) hi
+      solved-ignores (g .d) (g .parities) i y (columnAt (numbered ns) (g .b) (a ++ n) j) (column (original g (stateOf (lent r a n l)) x) j) (R .listing .range .parities-least) few hi
       (λ k hk _ _. ap (λ (m : ℕ). byteOf (g .b) (a ++ n) m j) (tab k hk) ∙ original-byte k j hk hj))
 
   pub worked : (i y : ℕ) (work : List ℕ) → y ≡ otherMissing (r .geometry) (missingBy r l x) i → work ≡ solvedBlock (lent r a n l) x i y

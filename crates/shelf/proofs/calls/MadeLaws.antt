@@ -13,11 +13,11 @@ use lib.ListN.{length, getD, replicate}
 use lib.Seq.{ext-getD}
 use borrow.Author.Tests.{eqb-true, eqb-false}
 use Rattle.stripe.specs.Blocks.{block, byteOf, gen}
-use Rattle.stripe.specs.Parity.{parityP, parityQ}
+use Rattle.stripe.specs.Parity.{parityOf}
 use Rattle.stripe.specs.Places.{columnAt, byColumn, parityMade, parityMadeAll}
-use Rattle.stripe.proofs.Laws.{made-length, made-others, made-in-p, made-in-q, all-length, all-data, all-obey, parityP-ext, parityQ-ext, place-lt, place-inj, place-other, fits, length-block, getD-block, length-gen, getD-gen}
+use Rattle.stripe.proofs.Laws.{made-length, made-others, made-in, all-length, all-data, all-obey, parity-ext, place-lt, place-inj, place-other, fits, length-block, getD-block, length-gen, getD-gen}
 use Rattle.shelf.specs.Counting.{choose, setAt}
-use Rattle.shelf.specs.Members.{InRange, addressOf, column, blockP, blockQ, placeAt}
+use Rattle.shelf.specs.Members.{InRange, addressOf, column, blockParity, placeAt}
 use Rattle.shelf.specs.State.{State, isSome, listed, marksIn, freshState}
 use Rattle.shelf.specs.Calls.{withFlags, nextLeft, modeLeft, settled, dropped, afresh, made, remade, overwritten}
 use Rattle.shelf.specs.Words.{words}
@@ -33,7 +33,7 @@ use Rattle.shelf.proofs.general.AddressLaws.{stripe-of}
 use Rattle.shelf.proofs.lent.FormatLaws.{none-bytes}
 use Rattle.shelf.proofs.lent.FreshLaws.{full-bytes, fresh-says}
 use Rattle.shelf.proofs.lent.ListLayout.{list-laid}
-use Rattle.shelf.proofs.lent.LayoutLaws.{array-is, role-data, role-p, role-q, by-role}
+use Rattle.shelf.proofs.lent.LayoutLaws.{array-is, role-data, role-parity, by-role}
 use Rattle.shelf.proofs.agreement.ListedLaws.{marksIn-ext, no-marks}
 use Rattle.shelf.proofs.hashlist.ListMarks.{none-record, marks-listed}
 use Rattle.shelf.proofs.hashlist.ListMeaning.{length-encode, dropped-valid, dropped-left, dropped-gone, dropped-kept}
@@ -66,71 +66,60 @@ leaves-by g s r a n l Y er A en Z bytes =
 
 -- ---- one stripe: the array
 
--- the array a is the state's but for stripe t, whose data blocks are those of row; its P and Q are not looked at
+-- the array a is the state's but for stripe t, whose data blocks are those of row; its parities are not looked at
 pub record Rowed (g : Geometry) (s : State) (t : ℕ) (row : ℕ → List ℕ) (a : List ℕ) : Type 0 where
   pub long : length a ≡ arrayLength g
   pub here : (i : ℕ) → i < g .d → arrayBlock g a t i ≡ row i
   pub disk : (x i : ℕ) → x < g .s → x ≢ t → i < g .d → arrayBlock g a x i ≡ s .disk x i
-  pub p : (x : ℕ) → x < g .s → x ≢ t → arrayBlock g a x (g .d) ≡ s .p x
-  pub q : (x : ℕ) → x < g .s → x ≢ t → arrayBlock g a x (g .d + 1) ≡ s .q x
+  pub parity : (x p : ℕ) → x < g .s → p < g .parities → x ≢ t → arrayBlock g a x (g .d + p) ≡ s .parity x p
 
 module _ (g : Geometry) (s : State) (t : ℕ) (row : ℕ → List ℕ) (a : List ℕ) (ht : t < g .s) (R : Rowed g s t row a) where
   abbrev at : ℕ → ℕ
   at = placeAt g t
 
   abbrev after : List ℕ
-  after = parityMade (placeAt g t) (g .d) (g .b) a
+  after = parityMade (placeAt g t) (g .d) (g .parities) (g .b) a
 
-  room : (x i : ℕ) → x < g .s → i < g .d + 2 → placeAt g x i * g .b + g .b ≤ length a
-  room x i hx hi = fits (placeAt g x i) ((g .d + 2) * g .s) (g .b) a (R .long) (place-lt (g .layout) (g .d) (g .s) x i hx hi)
+  room : (x i : ℕ) → x < g .s → i < g .d + g .parities → placeAt g x i * g .b + g .b ≤ length a
+  room x i hx hi = fits (placeAt g x i) ((g .d + g .parities) * g .s) (g .b) a (R .long) (place-lt (g .layout) (g .d) (g .parities) (g .s) x i hx hi)
 
-  own : (i k : ℕ) → i < g .d + 2 → k < g .d + 2 → i ≢ k → at i ≢ at k
-  own i k hi hk ne e = ne (place-inj (g .layout) (g .d) (g .s) t i k ht hi hk e)
+  own : (i k : ℕ) → i < g .d + g .parities → k < g .d + g .parities → i ≢ k → at i ≢ at k
+  own i k hi hk ne e = ne (place-inj (g .layout) (g .d) (g .parities) (g .s) t i k ht hi hk e)
 
   after-long : length after ≡ length a
-  after-long = made-length at (g .d) (g .b) a (λ i h. room t i ht h) own
+  after-long = made-length at (g .d) (g .b) a (g .parities) (λ i h. room t i ht h)
 
-  after-room : (x i : ℕ) → x < g .s → i < g .d + 2 → placeAt g x i * g .b + g .b ≤ length after
+  after-room : (x i : ℕ) → x < g .s → i < g .d + g .parities → placeAt g x i * g .b + g .b ≤ length after
   after-room x i hx hi = omega (arith, after-long, room x i hx hi)
 
-  -- a block that is neither P nor Q of stripe t
-  stays : (x i : ℕ) → x < g .s → i < g .d + 2 → placeAt g x i ≢ at (g .d) → placeAt g x i ≢ at (g .d + 1)
+  -- a block that is no parity of stripe t
+  stays : (x i : ℕ) → x < g .s → i < g .d + g .parities → ((p : ℕ) → p < g .parities → placeAt g x i ≢ at (g .d + p))
       → arrayBlock g after x i ≡ arrayBlock g a x i
-  stays x i hx hi u v =
+  stays x i hx hi away =
       block-is (g .b) (placeAt g x i) after (arrayBlock g a x i) (after-room x i hx hi)
       (length-block (g .b) (placeAt g x i) a (room x i hx hi))
-      (λ j l. made-others at (g .d) (g .b) a (λ k h. room t k ht h) own (placeAt g x i) j l u v ∙ byte-block (g .b) (placeAt g x i) a j l)
+      (λ j l. made-others at (g .d) (g .b) a (g .parities) (λ k h. room t k ht h) (placeAt g x i) j l away ∙ byte-block (g .b) (placeAt g x i) a j l)
 
-  pub elsewhere : (x i : ℕ) → x < g .s → i < g .d + 2 → x ≢ t → arrayBlock g after x i ≡ arrayBlock g a x i
-  elsewhere x i hx hi ne = stays x i hx hi (place-other (g .layout) (g .d) (g .s) x t i (g .d) hx ht ne) (place-other (g .layout) (g .d) (g .s) x t i (g .d + 1) hx ht ne)
+  pub elsewhere : (x i : ℕ) → x < g .s → i < g .d + g .parities → x ≢ t → arrayBlock g after x i ≡ arrayBlock g a x i
+  elsewhere x i hx hi ne = stays x i hx hi (λ p _. place-other (g .layout) (g .d) (g .parities) (g .s) x t i (g .d + p) hx ht ne)
 
   pub in-row : (i : ℕ) → i < g .d → arrayBlock g after t i ≡ row i
-  in-row i hi =
-      stays t i ht (omega arith) (own i (g .d) (omega arith) (omega arith) (λ e. omega arith)) (own i (g .d + 1) (omega arith) (omega arith) (λ e. omega arith))
-      ∙ R .here i hi
+  in-row i hi = stays t i ht (omega arith) (λ p hp. own i (g .d + p) (omega arith) (omega arith) (λ e. omega arith)) ∙ R .here i hi
 
   columns : (j : ℕ) → j < g .b → (i : ℕ) → i < g .d → columnAt at (g .b) a j i ≡ column row j i
   unfolding columnAt
   columns j l i hi = byte-block (g .b) (at i) a j l ∙ ap (λ (v : List ℕ). getD v j 0) (R .here i hi)
 
-  pub in-p : arrayBlock g after t (g .d) ≡ blockP g row
-  unfolding blockP byColumn
-  in-p =
-      block-is (g .b) (at (g .d)) after (gen (g .b) (λ j. parityP (g .d) (column row j))) (after-room t (g .d) ht (omega arith))
-      (length-gen (g .b) (λ j. parityP (g .d) (column row j)))
-      (λ j l. made-in-p at (g .d) (g .b) a (λ k h. room t k ht h) own j l ∙ parityP-ext (g .d) (columnAt at (g .b) a j) (column row j) (columns j l)
-      ∙ sym (getD-gen (g .b) (λ j. parityP (g .d) (column row j)) j l))
-
-  pub in-q : arrayBlock g after t (g .d + 1) ≡ blockQ g row
-  unfolding blockQ byColumn
-  in-q =
-      block-is (g .b) (at (g .d + 1)) after (gen (g .b) (λ j. parityQ (g .d) (column row j))) (after-room t (g .d + 1) ht (omega arith))
-      (length-gen (g .b) (λ j. parityQ (g .d) (column row j)))
-      (λ j l. made-in-q at (g .d) (g .b) a (λ k h. room t k ht h) own j l ∙ parityQ-ext (g .d) (columnAt at (g .b) a j) (column row j) (columns j l)
-      ∙ sym (getD-gen (g .b) (λ j. parityQ (g .d) (column row j)) j l))
+  pub in-parity : (p : ℕ) → p < g .parities → arrayBlock g after t (g .d + p) ≡ blockParity g p row
+  unfolding blockParity byColumn
+  in-parity p hp =
+      block-is (g .b) (at (g .d + p)) after (gen (g .b) (λ j. parityOf p (g .d) (column row j))) (after-room t (g .d + p) ht (omega arith))
+      (length-gen (g .b) (λ j. parityOf p (g .d) (column row j)))
+      (λ j l. made-in at (g .d) (g .b) a (g .parities) (λ k h. room t k ht h) own p j hp l ∙ parity-ext p (g .d) (columnAt at (g .b) a j) (column row j) (columns j l)
+      ∙ sym (getD-gen (g .b) (λ j. parityOf p (g .d) (column row j)) j l))
 
   -- the array with the stripe's parity made holds the blocks of `made`
-  pub made-reads : HoldsArray g (made g s t row) (parityMade (placeAt g t) (g .d) (g .b) a)
+  pub made-reads : HoldsArray g (made g s t row) (parityMade (placeAt g t) (g .d) (g .parities) (g .b) a)
   unfolding made settled choose setAt
   made-reads =
       record {
@@ -140,12 +129,9 @@ module _ (g : Geometry) (s : State) (t : ℕ) (row : ℕ → List ℕ) (a : List
             (λ k hk. role-data g (made g s t row) x k hk ∙ cases (eqb x t)
             (λ e. simp e (sym (in-row k hk) ∙ ap (λ (y : ℕ). arrayBlock g after y k) (sym (eqb-true x t e))))
             (λ e. simp e (sym (elsewhere x k hx (omega arith) (eqb-false x t e) ∙ R .disk x k hx (eqb-false x t e) hk))))
-            (role-p g (made g s t row) x ∙ cases (eqb x t)
-            (λ e. simp e (sym in-p ∙ ap (λ (y : ℕ). arrayBlock g after y (g .d)) (sym (eqb-true x t e))))
-            (λ e. simp e (sym (elsewhere x (g .d) hx (omega arith) (eqb-false x t e) ∙ R .p x hx (eqb-false x t e)))))
-            (role-q g (made g s t row) x ∙ cases (eqb x t)
-            (λ e. simp e (sym in-q ∙ ap (λ (y : ℕ). arrayBlock g after y (g .d + 1)) (sym (eqb-true x t e))))
-            (λ e. simp e (sym (elsewhere x (g .d + 1) hx (omega arith) (eqb-false x t e) ∙ R .q x hx (eqb-false x t e)))))
+            (λ p hp. role-parity g (made g s t row) x p ∙ cases (eqb x t)
+            (λ e. simp e (sym (in-parity p hp) ∙ ap (λ (y : ℕ). arrayBlock g after y (g .d + p)) (sym (eqb-true x t e))))
+            (λ e. simp e (sym (elsewhere x (g .d + p) hx (omega arith) (eqb-false x t e) ∙ R .parity x p hx hp (eqb-false x t e)))))
             i hi;
       }
 
@@ -153,14 +139,13 @@ module _ (g : Geometry) (s : State) (t : ℕ) (row : ℕ → List ℕ) (a : List
 -- array as it was
 pub rowed : (g : Geometry) (s : State) (t : ℕ) (w : ℕ → Bool) (v : ℕ → List ℕ) (a a' : List ℕ) → t < g .s → HoldsArray g s a → length a' ≡ length a
     → ((i : ℕ) → i < g .d → arrayBlock g a' t i ≡ choose (w i) (v i) (arrayBlock g a t i))
-    → ((x i : ℕ) → x < g .s → x ≢ t → i < g .d + 2 → arrayBlock g a' x i ≡ arrayBlock g a x i) → Rowed g s t (overwritten w v (s .disk t)) a'
+    → ((x i : ℕ) → x < g .s → x ≢ t → i < g .d + g .parities → arrayBlock g a' x i ≡ arrayBlock g a x i) → Rowed g s t (overwritten w v (s .disk t)) a'
 rowed g s t w v a a' ht A long here other =
     record {
       long = long ∙ A .long;
       here = λ i hi. here i hi ∙ ap (λ (o : List ℕ). choose (w i) (v i) o) (sym (A .blocks t i ht (omega arith)) ∙ role-data g s t i hi);
       disk = λ x i hx ne hi. other x i hx ne (omega arith) ∙ sym (A .blocks x i hx (omega arith)) ∙ role-data g s x i hi;
-      p = λ x hx ne. other x (g .d) hx ne (omega arith) ∙ sym (A .blocks x (g .d) hx (omega arith)) ∙ role-p g s x;
-      q = λ x hx ne. other x (g .d + 1) hx ne (omega arith) ∙ sym (A .blocks x (g .d + 1) hx (omega arith)) ∙ role-q g s x;
+      parity = λ x p hx hp ne. other x (g .d + p) hx ne (omega arith) ∙ sym (A .blocks x (g .d + p) hx (omega arith)) ∙ role-parity g s x p;
     }
 
 -- the same of an array in which nothing is replaced
@@ -170,8 +155,7 @@ rowed-same g s t a ht A =
       long = A .long;
       here = λ i hi. sym (A .blocks t i ht (omega arith)) ∙ role-data g s t i hi;
       disk = λ x i hx ne hi. sym (A .blocks x i hx (omega arith)) ∙ role-data g s x i hi;
-      p = λ x hx ne. sym (A .blocks x (g .d) hx (omega arith)) ∙ role-p g s x;
-      q = λ x hx ne. sym (A .blocks x (g .d + 1) hx (omega arith)) ∙ role-q g s x;
+      parity = λ x p hx hp ne. sym (A .blocks x (g .d + p) hx (omega arith)) ∙ role-parity g s x p;
     }
 
 -- ---- some stripes: the list and the record
@@ -239,14 +223,14 @@ made-log g s t row n e = e
 -- Stripe t with the data blocks of row made, all of it: from what is lent as the state s, but for the array a, which has the row already.
 pub made-leaves : (g : Geometry) (s : State) (t : ℕ) (row : ℕ → List ℕ) (r : Shelf) (k : ℕ) (a n l : List ℕ) → InRange g → t < g .s → r ≡ recordOf g s → n ≡ logOf g s
     → Rowed g s t row a → HoldsList g (made g s t row) k l → ((i : ℕ) → getD l i 0 < 256)
-    → Leaves g (made g s t row) (lent (withListed r k) (parityMade (placeAt g t) (g .d) (g .b) a) n l)
+    → Leaves g (made g s t row) (lent (withListed r k) (parityMade (placeAt g t) (g .d) (g .parities) (g .b) a) n l)
 made-leaves g s t row r k a n l Y ht er en R Z bytes =
-    leaves-by g (made g s t row) (withListed r k) (parityMade (placeAt g t) (g .d) (g .b) a) n l Y (made-record g s t row r k l Y er Z) (made-reads g s t row a ht R)
+    leaves-by g (made g s t row) (withListed r k) (parityMade (placeAt g t) (g .d) (g .parities) (g .b) a) n l Y (made-record g s t row r k l Y er Z) (made-reads g s t row a ht R)
     (made-log g s t row n en) Z bytes
 
 -- ---- all stripes
 
--- the data blocks of the array a are those of disk; its P and Q are not looked at
+-- the data blocks of the array a are those of disk; its parities are not looked at
 pub record Filled (g : Geometry) (disk : ℕ → ℕ → List ℕ) (a : List ℕ) : Type 0 where
   pub long : length a ≡ arrayLength g
   pub blocks : (x i : ℕ) → x < g .s → i < g .d → arrayBlock g a x i ≡ disk x i
@@ -256,27 +240,27 @@ module _ (g : Geometry) (disk : ℕ → ℕ → List ℕ) (a : List ℕ) (F : Fi
   at-all = placeAt g
 
   abbrev all-after : List ℕ
-  all-after = parityMadeAll (g .s) (placeAt g) (g .d) (g .b) a
+  all-after = parityMadeAll (g .s) (placeAt g) (g .d) (g .parities) (g .b) a
 
-  all-room : (x i : ℕ) → x < g .s → i < g .d + 2 → placeAt g x i * g .b + g .b ≤ length a
-  all-room x i hx hi = fits (placeAt g x i) ((g .d + 2) * g .s) (g .b) a (F .long) (place-lt (g .layout) (g .d) (g .s) x i hx hi)
+  all-room : (x i : ℕ) → x < g .s → i < g .d + g .parities → placeAt g x i * g .b + g .b ≤ length a
+  all-room x i hx hi = fits (placeAt g x i) ((g .d + g .parities) * g .s) (g .b) a (F .long) (place-lt (g .layout) (g .d) (g .parities) (g .s) x i hx hi)
 
-  all-own : (x i k : ℕ) → x < g .s → i < g .d + 2 → k < g .d + 2 → i ≢ k → at-all x i ≢ at-all x k
-  all-own x i k hx hi hk ne e = ne (place-inj (g .layout) (g .d) (g .s) x i k hx hi hk e)
+  all-own : (x i k : ℕ) → x < g .s → i < g .d + g .parities → k < g .d + g .parities → i ≢ k → at-all x i ≢ at-all x k
+  all-own x i k hx hi hk ne e = ne (place-inj (g .layout) (g .d) (g .parities) (g .s) x i k hx hi hk e)
 
   all-apart : (x y i k : ℕ) → x < g .s → y < g .s → x ≢ y → at-all x i ≢ at-all y k
-  all-apart x y i k hx hy ne = place-other (g .layout) (g .d) (g .s) x y i k hx hy ne
+  all-apart x y i k hx hy ne = place-other (g .layout) (g .d) (g .parities) (g .s) x y i k hx hy ne
 
   all-long : length all-after ≡ length a
-  all-long = all-length at-all (g .d) (g .s) (g .b) a all-room all-own all-apart (g .s) (omega arith)
+  all-long = all-length at-all (g .d) (g .parities) (g .s) (g .b) a all-room all-own all-apart (g .s) (omega arith)
 
-  all-after-room : (x i : ℕ) → x < g .s → i < g .d + 2 → placeAt g x i * g .b + g .b ≤ length all-after
+  all-after-room : (x i : ℕ) → x < g .s → i < g .d + g .parities → placeAt g x i * g .b + g .b ≤ length all-after
   all-after-room x i hx hi = omega (arith, all-long, all-room x i hx hi)
 
   all-columns : (x j : ℕ) → x < g .s → j < g .b → (i : ℕ) → i < g .d → columnAt (at-all x) (g .b) all-after j i ≡ column (disk x) j i
   unfolding columnAt
   all-columns x j hx l i hi =
-      all-data at-all (g .d) (g .s) (g .b) a all-room all-own all-apart (g .s) x i j (omega arith) hx hi l
+      all-data at-all (g .d) (g .parities) (g .s) (g .b) a all-room all-own all-apart (g .s) x i j (omega arith) hx hi l
       ∙ byte-block (g .b) (at-all x i) a j l ∙ ap (λ (v : List ℕ). getD v j 0) (F .blocks x i hx hi)
 
   all-in-data : (x i : ℕ) → x < g .s → i < g .d → arrayBlock g all-after x i ≡ disk x i
@@ -286,26 +270,17 @@ module _ (g : Geometry) (disk : ℕ → ℕ → List ℕ) (a : List ℕ) (F : Fi
       (sym (ap length (F .blocks x i hx hi)) ∙ length-block (g .b) (at-all x i) a (all-room x i hx (omega arith)))
       (λ j l. all-columns x j hx l i hi)
 
-  all-in-p : (x : ℕ) → x < g .s → arrayBlock g all-after x (g .d) ≡ blockP g (disk x)
-  unfolding blockP columnAt
-  all-in-p x hx =
-      block-is (g .b) (at-all x (g .d)) all-after (gen (g .b) (λ j. parityP (g .d) (column (disk x) j))) (all-after-room x (g .d) hx (omega arith))
-      (length-gen (g .b) (λ j. parityP (g .d) (column (disk x) j)))
-      (λ j l. all-obey at-all (g .d) (g .s) (g .b) a all-room all-own all-apart (g .s) x j (omega arith) hx l .p
-      ∙ parityP-ext (g .d) (columnAt (at-all x) (g .b) all-after j) (column (disk x) j) (all-columns x j hx l)
-      ∙ sym (getD-gen (g .b) (λ j. parityP (g .d) (column (disk x) j)) j l))
-
-  all-in-q : (x : ℕ) → x < g .s → arrayBlock g all-after x (g .d + 1) ≡ blockQ g (disk x)
-  unfolding blockQ columnAt
-  all-in-q x hx =
-      block-is (g .b) (at-all x (g .d + 1)) all-after (gen (g .b) (λ j. parityQ (g .d) (column (disk x) j))) (all-after-room x (g .d + 1) hx (omega arith))
-      (length-gen (g .b) (λ j. parityQ (g .d) (column (disk x) j)))
-      (λ j l. all-obey at-all (g .d) (g .s) (g .b) a all-room all-own all-apart (g .s) x j (omega arith) hx l .q
-      ∙ parityQ-ext (g .d) (columnAt (at-all x) (g .b) all-after j) (column (disk x) j) (all-columns x j hx l)
-      ∙ sym (getD-gen (g .b) (λ j. parityQ (g .d) (column (disk x) j)) j l))
+  all-in-parity : (x p : ℕ) → x < g .s → p < g .parities → arrayBlock g all-after x (g .d + p) ≡ blockParity g p (disk x)
+  unfolding blockParity columnAt
+  all-in-parity x p hx hp =
+      block-is (g .b) (at-all x (g .d + p)) all-after (gen (g .b) (λ j. parityOf p (g .d) (column (disk x) j))) (all-after-room x (g .d + p) hx (omega arith))
+      (length-gen (g .b) (λ j. parityOf p (g .d) (column (disk x) j)))
+      (λ j l. all-obey at-all (g .d) (g .parities) (g .s) (g .b) a all-room all-own all-apart (g .s) x j (omega arith) hx l .each p hp
+      ∙ parity-ext p (g .d) (columnAt (at-all x) (g .b) all-after j) (column (disk x) j) (all-columns x j hx l)
+      ∙ sym (getD-gen (g .b) (λ j. parityOf p (g .d) (column (disk x) j)) j l))
 
   -- the array with all parity made holds the blocks of `remade`
-  pub remade-reads : (s : State) (f : ℕ → Bool) → HoldsArray g (remade g s disk f) (parityMadeAll (g .s) (placeAt g) (g .d) (g .b) a)
+  pub remade-reads : (s : State) (f : ℕ → Bool) → HoldsArray g (remade g s disk f) (parityMadeAll (g .s) (placeAt g) (g .d) (g .parities) (g .b) a)
   unfolding remade
   remade-reads s f =
       record {
@@ -313,8 +288,7 @@ module _ (g : Geometry) (disk : ℕ → ℕ → List ℕ) (a : List ℕ) (F : Fi
         blocks = λ x i hx hi.
             by-role g (λ k. roleBlock g (remade g s disk f) x k ≡ arrayBlock g all-after x k)
             (λ k hk. role-data g (remade g s disk f) x k hk ∙ sym (all-in-data x k hx hk))
-            (role-p g (remade g s disk f) x ∙ sym (all-in-p x hx))
-            (role-q g (remade g s disk f) x ∙ sym (all-in-q x hx)) i hi;
+            (λ p hp. role-parity g (remade g s disk f) x p ∙ sym (all-in-parity x p hx hp)) i hi;
       }
 
 -- ---- the list emptied: every byte 255
@@ -343,7 +317,7 @@ remade-log g s disk f n e = e
 -- All stripes with the data blocks of disk made, all of it: the array a has the blocks already.
 pub remade-leaves : (g : Geometry) (s : State) (disk : ℕ → ℕ → List ℕ) (f : ℕ → Bool) (a n : List ℕ) → InRange g → Filled g disk a → n ≡ logOf g s
     → Leaves g (remade g s disk f)
-    (lent (record { geometry = g; mode = 0; next = 0; listed = 0; failed = flagsOf f }) (parityMadeAll (g .s) (placeAt g) (g .d) (g .b) a) n (replicate (listLength g) 255))
+    (lent (record { geometry = g; mode = 0; next = 0; listed = 0; failed = flagsOf f }) (parityMadeAll (g .s) (placeAt g) (g .d) (g .parities) (g .b) a) n (replicate (listLength g) 255))
 remade-leaves g s disk f a n Y F en =
-    leaves-by g (remade g s disk f) (record { geometry = g; mode = 0; next = 0; listed = 0; failed = flagsOf f }) (parityMadeAll (g .s) (placeAt g) (g .d) (g .b) a) n
+    leaves-by g (remade g s disk f) (record { geometry = g; mode = 0; next = 0; listed = 0; failed = flagsOf f }) (parityMadeAll (g .s) (placeAt g) (g .d) (g .parities) (g .b) a) n
     (replicate (listLength g) 255) Y (remade-record g s disk f) (remade-reads g disk a F s f) (remade-log g s disk f n en) (remade-says g s disk f Y) (full-bytes (listLength g))

@@ -11,7 +11,7 @@ use lib.ListN.{length, getD, set, length-set}
 use lib.Seq.{getD-set-same, getD-set-other}
 use borrow.Author.Tests.{ltb-true, ltb-false}
 use Rattle.shelf.specs.Counting.{count, any, Tests}
-use Rattle.shelf.specs.Members.{memberAt}
+use Rattle.shelf.specs.Members.{Sized, arrayMembers, memberAt}
 use Rattle.shelf.specs.State.{State, listed, stale, marksIn}
 use Rattle.shelf.specs.Status.{rebuild, arrayFailed, arraySound, withheld, dataWithheld, row, codeOf}
 use Rattle.shelf.specs.Calls.{nextLeft, modeLeft, settled, dropped, arrayCleared, rebuilt, work}
@@ -25,9 +25,9 @@ use Rattle.shelf.specs.Rebuilding.{Rebuildable, parityFailedAt, dataFail
 use Rattle.shelf.specs.declared.record.Geometry.{Geometry}
 use Rattle.shelf.specs.declared.record.Shelf.{Shelf}
 use Rattle.shelf.proofs.general.TestLaws.{cases, clash, choose-true, choose-false, and-false, and-left, and-right, same-bool}
-use Rattle.shelf.proofs.general.CountLaws.{any-ext, any-some, any-found, none-any, count-more}
+use Rattle.shelf.proofs.general.CountLaws.{any-ext, any-some, any-found, none-any}
 use Rattle.shelf.proofs.numbers.TableRows.{row-hit, row-pass}
-use Rattle.shelf.proofs.numbers.InputLaws.{Passed, fine-record, inputs-pass, measures-of}
+use Rattle.shelf.proofs.numbers.InputLaws.{sized, Passed, few-flags, inputs-pass, measures-of}
 use Rattle.shelf.proofs.hashlist.ListMarks.{marks-listed}
 use Rattle.shelf.proofs.agreement.ListedLaws.{marks-none}
 use Rattle.shelf.proofs.lent.LayoutLaws.{flags-are, log-is}
@@ -39,7 +39,7 @@ use Rattle.shelf.proofs.calls.RefillLaws.{rebuilt-reads}
 -- ---- row 14, as the code tries it
 
 -- a data block is on a failed member, by a table of the roles
-pub roles-any : (r : Shelf) (x : ℕ) (ts : List Bool) → Tests (r .geometry .d + 2) (failedRole r x) ts → any (r .geometry .d) (λ k. getD ts k false) ≡ dataFailedAt r x
+pub roles-any : (r : Shelf) (x : ℕ) (ts : List Bool) → Tests (r .geometry .d + r .geometry .parities) (failedRole r x) ts → any (r .geometry .d) (λ k. getD ts k false) ≡ dataFailedAt r x
 roles-any r x ts T = any-ext (r .geometry .d) (λ k. getD ts k false) (failedRole r x) (λ k h. T k (omega arith))
 
 module _ (r : Shelf) (l : List ℕ) (R : ListReady r l) (x : ℕ) where
@@ -47,14 +47,14 @@ module _ (r : Shelf) (l : List ℕ) (R : ListReady r l) (x : ℕ) where
   pub sound-at : dataFailedAt r x ≡ false → false ≡ withheldAt r l x
   sound-at e =
       sym (none-any (r .geometry .d) (λ i. withheld (r .geometry) (flagAt r) (listedBy (r .geometry) l) x i)
-      (λ i h. ap (λ (u : Bool). flagAt r (r .geometry .d + 2) && (u && stale (r .geometry) (listedBy (r .geometry) l) x))
-      (off i h) ∙ and-false (flagAt r (r .geometry .d + 2))))
+      (λ i h. ap (λ (u : Bool). flagAt r (r .geometry .d + r .geometry .parities) && (u && stale (r .geometry) (listedBy (r .geometry) l) x))
+      (off i h) ∙ and-false (flagAt r (r .geometry .d + r .geometry .parities))))
     where
       off : (i : ℕ) → i < r .geometry .d → flagAt r (memberAt (r .geometry) x i) ≡ false
       off i h = cases (flagAt r (memberAt (r .geometry) x i)) (λ t. clash (any-some (r .geometry .d) (λ k. flagAt r (memberAt (r .geometry) x k)) i h t) e) (λ t. t)
 
   -- one has: the stripe is withheld where it is stale
-  pub stale-at : flagAt r (r .geometry .d + 2) ≡ true → dataFailedAt r x ≡ true → (u : Bool) → u ≡ staleIn (words l) (r .geometry) x → u ≡ withheldAt r l x
+  pub stale-at : flagAt r (r .geometry .d + r .geometry .parities) ≡ true → dataFailedAt r x ≡ true → (u : Bool) → u ≡ staleIn (words l) (r .geometry) x → u ≡ withheldAt r l x
   stale-at t e u q =
       let f = any-found (r .geometry .d) (λ k. flagAt r (memberAt (r .geometry) x k)) e in
       same-bool u (withheldAt r l x)
@@ -63,13 +63,13 @@ module _ (r : Shelf) (l : List ℕ) (R : ListReady r l) (x : ℕ) where
       (λ z.
       let k = any-found (r .geometry .d) (λ i. withheld (r .geometry) (flagAt r) (listedBy (r .geometry) l) x i) z in
       let both : (flagAt r (memberAt (r .geometry) x (k .0)) && stale (r .geometry) (listedBy (r .geometry) l) x) ≡ true =
-      and-right (flagAt r (r .geometry .d + 2)) (flagAt r (memberAt (r .geometry) x (k .0)) && stale (r .geometry) (listedBy (r .geometry) l) x) (k .2) in
+      and-right (flagAt r (r .geometry .d + r .geometry .parities)) (flagAt r (memberAt (r .geometry) x (k .0)) && stale (r .geometry) (listedBy (r .geometry) l) x) (k .2) in
       held-stale r l R x (k .0) (memberAt (r .geometry) x (k .0)) refl t
       (and-left (flagAt r (memberAt (r .geometry) x (k .0))) (stale (r .geometry) (listedBy (r .geometry) l) x) both) u q ∙ k .2)
 
 module _ (r : Shelf) (l : List ℕ) (R : ListReady r l) where
   -- the log is sound
-  pub none-by-log : flagAt r (r .geometry .d + 2) ≡ false → dataWithheld (r .geometry) (flagAt r) (listedBy (r .geometry) l) ≡ false
+  pub none-by-log : flagAt r (r .geometry .d + r .geometry .parities) ≡ false → dataWithheld (r .geometry) (flagAt r) (listedBy (r .geometry) l) ≡ false
   none-by-log t =
       none-any (r .geometry .s) (λ x. withheldAt r l x) (λ x _.
       none-any (r .geometry .d) (λ i. withheld (r .geometry) (flagAt r) (listedBy (r .geometry) l) x i) (λ i _.
@@ -80,8 +80,8 @@ module _ (r : Shelf) (l : List ℕ) (R : ListReady r l) where
   none-by-list z =
       none-any (r .geometry .s) (λ x. withheldAt r l x) (λ x hx.
       none-any (r .geometry .d) (λ i. withheld (r .geometry) (flagAt r) (listedBy (r .geometry) l) x i) (λ i _.
-      ap (λ (u : Bool). flagAt r (r .geometry .d + 2) && (flagAt r (memberAt (r .geometry) x i) && u)) (fresh x hx)
-      ∙ ap (λ (u : Bool). flagAt r (r .geometry .d + 2) && u) (and-false (flagAt r (memberAt (r .geometry) x i))) ∙ and-false (flagAt r (r .geometry .d + 2))))
+      ap (λ (u : Bool). flagAt r (r .geometry .d + r .geometry .parities) && (flagAt r (memberAt (r .geometry) x i) && u)) (fresh x hx)
+      ∙ ap (λ (u : Bool). flagAt r (r .geometry .d + r .geometry .parities) && u) (and-false (flagAt r (memberAt (r .geometry) x i))) ∙ and-false (flagAt r (r .geometry .d + r .geometry .parities))))
     where
       fresh : (x : ℕ) → x < r .geometry .s → stale (r .geometry) (listedBy (r .geometry) l) x ≡ false
       fresh x hx =
@@ -123,14 +123,14 @@ cleared-turn fs₀ fs i h C =
       above = λ k l. getD-set-other fs i k false false (λ q. omega arith) ∙ C .above k (omega arith);
     }
 
-pub cleared-all : (r : Shelf) (i : ℕ) (fs : List Bool) → i ≡ r .geometry .d + 2 → ClearedTo (r .failed) i fs
+pub cleared-all : (r : Shelf) (i : ℕ) (fs : List Bool) → i ≡ r .geometry .d + r .geometry .parities → ClearedTo (r .failed) i fs
     → record { geometry = r .geometry; mode = r .mode; next = r .next; listed = r .listed; failed = fs } ≡ withCleared r
 cleared-all r i fs e C =
     let same : fs ≡ flagsOf (arrayCleared (r .geometry) (flagAt r)) =
     flags-are (arrayCleared (r .geometry) (flagAt r)) fs (C .long) (λ k _.
-    cases (ltb k (r .geometry .d + 2))
-    (λ t. let low = ltb-true k (r .geometry .d + 2) t in C .below k (omega (arith, e, low)) ∙ sym (choose-true (ltb k (r .geometry .d + 2)) false (flagAt r k) t))
-    (λ t. let high = ltb-false k (r .geometry .d + 2) t in C .above k (omega (arith, e, high)) ∙ sym (choose-false (ltb k (r .geometry .d + 2)) false (flagAt r k) t))) in
+    cases (ltb k (r .geometry .d + r .geometry .parities))
+    (λ t. let low = ltb-true k (r .geometry .d + r .geometry .parities) t in C .below k (omega (arith, e, low)) ∙ sym (choose-true (ltb k (r .geometry .d + r .geometry .parities)) false (flagAt r k) t))
+    (λ t. let high = ltb-false k (r .geometry .d + r .geometry .parities) t in C .above k (omega (arith, e, high)) ∙ sym (choose-false (ltb k (r .geometry .d + r .geometry .parities)) false (flagAt r k) t))) in
     λ j. record { geometry = r .geometry; mode = r .mode; next = r .next; listed = r .listed; failed = same j }
 
 -- ---- the record after it
@@ -155,24 +155,19 @@ module _ (r : Shelf) (a n l : List ℕ) where
   unfolding numberOf triesList
   passed e = inputs-pass r (length a) (length n) l _ (sym e) .0
 
-  two-failed : Passed r (length a) (length n) l → count (r .geometry .d + 2) (flagAt r) ≤ 2
-  two-failed P =
-      let few = ltb-false 2 (count 19 (flagAt r)) (fine-record r (P .fine) .few) in
-      let q : r .geometry .d + 2 + (17 - r .geometry .d) ≡ 19 = omega (arith, P .range .d-most) in
-      let more : count (r .geometry .d + 2) (flagAt r) ≤ count 19 (flagAt r) =
-      subst (λ (m : ℕ). count (r .geometry .d + 2) (flagAt r) ≤ count m (flagAt r)) q (count-more (r .geometry .d + 2) (17 - r .geometry .d) (flagAt r)) in
-      omega (arith, few, more)
+  few-failed : Passed r (length a) (length n) l → count (arrayMembers (r .geometry)) (flagAt r) ≤ r .geometry .parities
+  few-failed P = few-flags r (P .fine) (arrayMembers (r .geometry)) (omega (arith, P .range .d-most, P .range .parities-most))
 
   -- what the functions below ask
   pub rebuild-asks : 0 ≡ numberOf r (length a) (length n) l rebuild → Rebuildable (lent r a n l)
   rebuild-asks e =
       let P = passed e in
-      record { ready = record { listing = list-ready r (length a) (length n) l P; array = P .array; log = P .log }; two = two-failed P }
+      record { ready = record { listing = list-ready r (length a) (length n) l P; array = P .array; log = P .log }; few = few-failed P }
 
   pub settle-asks : 0 ≡ numberOf r (length a) (length n) l rebuild
-      → (r .geometry .d ≤ 16) × (Measures (r .geometry) l × Lists (words l) (r .geometry) (r .listed))
+      → Sized (r .geometry) × (Measures (r .geometry) l × Lists (words l) (r .geometry) (r .listed))
   settle-asks e =
-      let P = passed e in (P .range .d-most, (measures-of g l (P .range) (P .list), record { next = r .next; passing = P .valid }))
+      let P = passed e in (sized (P .range), (measures-of g l (P .range) (P .list), record { next = r .next; passing = P .valid }))
 
   module _ (e : 0 ≡ numberOf r (length a) (length n) l rebuild) (k : ℕ) (l' : List ℕ)
       (W : Rewritten (r .geometry) (keptEntries r l) l' k) (bytes : (i : ℕ) → getD l' i 0 < 256) where
@@ -205,7 +200,7 @@ module _ (r : Shelf) (a n l : List ℕ) where
     after-leaves : Leaves g (rebuilt g st) (lent (rebuiltRecord r k) (rebuiltTo (lent r a n l) (g .s)) n l')
     after-leaves =
         leaves-by g (rebuilt g st) (rebuiltRecord r k) (rebuiltTo (lent r a n l) (g .s)) n l' (passed e .range) after-record
-        (rebuilt-reads r a n l (two-failed (passed e)) (rebuild-asks e .ready)) after-log after-list bytes
+        (rebuilt-reads r a n l (few-failed (passed e)) (rebuild-asks e .ready)) after-log after-list bytes
 
     pub rebuild-answered : (r' : Shelf) (a' : List ℕ) → a' ≡ rebuiltTo (lent r a n l) (r .geometry .s) → r' ≡ rebuiltRecord r k → Answered (lent r a n l) rebuild 0 (lent r' a' n l')
     unfolding work

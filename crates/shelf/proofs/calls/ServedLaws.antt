@@ -27,6 +27,7 @@ use Rattle.shelf.specs.Records.{failedRole}
 use Rattle.shelf.specs.Reading.{ListReady, Ready, latest, originalPlace, missingBy}
 use Rattle.shelf.specs.declared.record.Geometry.{Geometry}
 use Rattle.shelf.specs.declared.record.Shelf.{Shelf}
+use Rattle.shelf.proofs.agreement.RowParity.{other-first, other-none}
 use Rattle.shelf.proofs.general.TestLaws.{cases, choose-true, choose-false, or-true, or-right, and-false, not-off, same-bool}
 use Rattle.shelf.proofs.hashlist.ListMarks.{listed-found}
 use Rattle.shelf.proofs.general.WalkLaws.{first-is}
@@ -94,7 +95,7 @@ record-none v n = choose-true (eqb v noneWord) none (some v) (eq-eqb v noneWord 
 -- ---- the block numbers of the originals
 
 module _ (g : Geometry) (l : List ℕ) (x i : ℕ) where
-  pub number-log : i < g .d → (v : ℕ) → v ≡ said (words l) g (addressOf g x i) .ori → v ≢ noneWord → (g .d + 2) * g .s + v ≡ originalPlace g l x i
+  pub number-log : i < g .d → (v : ℕ) → v ≡ said (words l) g (addressOf g x i) .ori → v ≢ noneWord → (g .d + g .parities) * g .s + v ≡ originalPlace g l x i
   unfolding originalPlace
   number-log h v e n =
       sym (choose-true (ltb i (g .d)) (orElse (oriBy g l x i) (λ r. arrayMembers g * g .s + r) (placeAt g x i)) (placeAt g x i) (lt-ltb i (g .d) h)
@@ -111,23 +112,23 @@ module _ (g : Geometry) (l : List ℕ) (x i : ℕ) where
 -- a table of block numbers: of the originals below i, of the array's blocks from i on
 pub record Overlaid (g : Geometry) (l : List ℕ) (x i : ℕ) (ns : List ℕ) : Type 0 where
   pub below : (k : ℕ) → k < i → getD ns k 0 ≡ originalPlace g l x k
-  pub above : (k : ℕ) → i ≤ k → k < g .d + 2 → getD ns k 0 ≡ placeAt g x k
+  pub above : (k : ℕ) → i ≤ k → k < g .d + g .parities → getD ns k 0 ≡ placeAt g x k
 
 module _ (g : Geometry) (l : List ℕ) (x : ℕ) where
-  pub overlaid-start : (ns : List ℕ) → Tabled (g .d + 2) (placeAt g x) ns → Overlaid g l x 0 ns
+  pub overlaid-start : (ns : List ℕ) → Tabled (g .d + g .parities) (placeAt g x) ns → Overlaid g l x 0 ns
   overlaid-start ns t = record { below = λ k h. absurd (omega arith); above = λ k _ h. t k h }
 
   -- an Ori's record is put in, or there is none
   pub overlaid-log : (i v : ℕ) (ns : List ℕ) → i < g .d → i < length ns → v ≡ said (words l) g (addressOf g x i) .ori → v ≢ noneWord → Overlaid g l x i ns
-      → Overlaid g l x (i + 1) (set ns i ((g .d + 2) * g .s + v))
+      → Overlaid g l x (i + 1) (set ns i ((g .d + g .parities) * g .s + v))
   overlaid-log i v ns h low e n O =
       record {
         below = λ k p. elim (ℕ-discrete k i) [
-          | yes q ↦ ap (λ (m : ℕ). getD (set ns i ((g .d + 2) * g .s + v)) m 0) q ∙ getD-set-same ns i ((g .d + 2) * g .s + v) 0 low
+          | yes q ↦ ap (λ (m : ℕ). getD (set ns i ((g .d + g .parities) * g .s + v)) m 0) q ∙ getD-set-same ns i ((g .d + g .parities) * g .s + v) 0 low
               ∙ number-log g l x i h v e n ∙ ap (originalPlace g l x) (sym q)
-          | no q ↦ getD-set-other ns i k ((g .d + 2) * g .s + v) 0 q ∙ O .below k (omega arith)
+          | no q ↦ getD-set-other ns i k ((g .d + g .parities) * g .s + v) 0 q ∙ O .below k (omega arith)
         ];
-        above = λ k p q. getD-set-other ns i k ((g .d + 2) * g .s + v) 0 (λ z. omega arith) ∙ O .above k (omega arith) q;
+        above = λ k p q. getD-set-other ns i k ((g .d + g .parities) * g .s + v) 0 (λ z. omega arith) ∙ O .above k (omega arith) q;
       }
 
   pub overlaid-array : (i : ℕ) (ns : List ℕ) → i < g .d → said (words l) g (addressOf g x i) .ori ≡ noneWord → Overlaid g l x i ns → Overlaid g l x (i + 1) ns
@@ -140,7 +141,7 @@ module _ (g : Geometry) (l : List ℕ) (x : ℕ) where
         above = λ k p q. O .above k (omega arith) q;
       }
 
-  pub overlaid-all : (ns : List ℕ) → Overlaid g l x (g .d) ns → Tabled (g .d + 2) (originalPlace g l x) ns
+  pub overlaid-all : (ns : List ℕ) → Overlaid g l x (g .d) ns → Tabled (g .d + g .parities) (originalPlace g l x) ns
   overlaid-all ns O k h =
       elim (decLt k (g .d)) [ yes p ↦ O .below k p | no p ↦ O .above k (omega arith) h ∙ number-array g l x k (λ q. absurd (p q)) ]
 
@@ -182,20 +183,18 @@ abbrev pub NoneBelow : (ℕ → Bool) → ℕ → ℕ → Type 0
 NoneBelow m i n = (k : ℕ) → k < n → (m k && not (eqb k i)) ≡ false
 
 module _ (g : Geometry) (m : ℕ → Bool) (i : ℕ) where
-  pub other-found : (n : ℕ) → n < g .d + 2 → NoneBelow m i n → m n ≡ true → n ≢ i → n ≡ otherMissing g m i
-  unfolding otherMissing
-  other-found n h below t u =
+  pub other-found : 1 < g .parities → (n : ℕ) → n < arrayMembers g → NoneBelow m i n → m n ≡ true → n ≢ i → n ≡ otherMissing g m i
+  other-found two n h below t u =
       let f : ℕ → Bool = λ k. m k && not (eqb k i) in
       let here : f n ≡ true = ap₂ (λ (a b : Bool). a && not b) t (ne-eqb n i u) in
-      let is : n ≡ first (g .d + 2) f = first-is (g .d + 2) f n (omega arith) (λ _. here) below in
-      is ∙ sym (choose-true (ltb (first (g .d + 2) f) (g .d + 2)) (first (g .d + 2) f) i (lt-ltb (first (g .d + 2) f) (g .d + 2) (subst (λ (k : ℕ). k < g .d + 2) is h)))
+      let is : n ≡ first (arrayMembers g) f = first-is (arrayMembers g) f n (omega arith) (λ _. here) below in
+      is ∙ sym (other-first g m i two (subst (λ (k : ℕ). k < arrayMembers g) is h))
 
-  pub other-none : NoneBelow m i (g .d + 2) → i ≡ otherMissing g m i
-  unfolding otherMissing
-  other-none below =
+  pub none-found : NoneBelow m i (arrayMembers g) → i ≡ otherMissing g m i
+  none-found below =
       let f : ℕ → Bool = λ k. m k && not (eqb k i) in
-      let is : g .d + 2 ≡ first (g .d + 2) f = first-is (g .d + 2) f (g .d + 2) (omega arith) (λ z. absurd (omega arith)) below in
-      sym (choose-false (ltb (first (g .d + 2) f) (g .d + 2)) (first (g .d + 2) f) i (le-ltb (first (g .d + 2) f) (g .d + 2) (subst (λ (k : ℕ). g .d + 2 ≤ k) is (omega arith))))
+      let is : arrayMembers g ≡ first (arrayMembers g) f = first-is (arrayMembers g) f (arrayMembers g) (omega arith) (λ z. absurd (omega arith)) below in
+      sym (other-none g m i (subst (λ (k : ℕ). arrayMembers g ≤ k) is (omega arith)))
 
 pub below-zero : (m : ℕ → Bool) (i : ℕ) → NoneBelow m i 0
 below-zero m i k h = absurd (omega arith)
@@ -259,26 +258,26 @@ module _ (r : Shelf) (l : List ℕ) (R : ListReady r l) where
       (λ i _. sym (listed-found (r .geometry) l (r .next) (r .listed) (R .range) (R .valid) x i))
 
   module _ (x i : ℕ) where
-    pub held-log : flagAt r (r .geometry .d + 2) ≡ false → false ≡ withheld (r .geometry) (flagAt r) (listedBy (r .geometry) l) x i
+    pub held-log : flagAt r (r .geometry .d + r .geometry .parities) ≡ false → false ≡ withheld (r .geometry) (flagAt r) (listedBy (r .geometry) l) x i
     held-log t = sym (ap (λ (u : Bool). u && (flagAt r (memberAt (r .geometry) x i) && stale (r .geometry) (listedBy (r .geometry) l) x)) t)
 
     pub held-disk : (m : ℕ) → m ≡ memberAt (r .geometry) x i → flagAt r m ≡ false → false ≡ withheld (r .geometry) (flagAt r) (listedBy (r .geometry) l) x i
     held-disk m e t =
-        sym (ap (λ (u : Bool). flagAt r (r .geometry .d + 2) && (u && stale (r .geometry) (listedBy (r .geometry) l) x)) (ap (flagAt r) (sym e) ∙ t)
-        ∙ and-false (flagAt r (r .geometry .d + 2)))
+        sym (ap (λ (u : Bool). flagAt r (r .geometry .d + r .geometry .parities) && (u && stale (r .geometry) (listedBy (r .geometry) l) x)) (ap (flagAt r) (sym e) ∙ t)
+        ∙ and-false (flagAt r (r .geometry .d + r .geometry .parities)))
 
-    pub held-stale : (m : ℕ) → m ≡ memberAt (r .geometry) x i → flagAt r (r .geometry .d + 2) ≡ true → flagAt r m ≡ true → (u : Bool)
+    pub held-stale : (m : ℕ) → m ≡ memberAt (r .geometry) x i → flagAt r (r .geometry .d + r .geometry .parities) ≡ true → flagAt r m ≡ true → (u : Bool)
         → u ≡ staleIn (words l) (r .geometry) x → u ≡ withheld (r .geometry) (flagAt r) (listedBy (r .geometry) l) x i
     held-stale m e t f u q =
         q ∙ stale-is x
         ∙ sym (ap₂ (λ (v w : Bool). v && (w && stale (r .geometry) (listedBy (r .geometry) l) x)) t (ap (flagAt r) (sym e) ∙ f))
 
-  pub none-withheld : (a n : ℕ) → flagAt r (r .geometry .d + 2) ≡ false → fetchWithheld (r .geometry) (flagAt r) (listedBy (r .geometry) l) a n ≡ false
+  pub none-withheld : (a n : ℕ) → flagAt r (r .geometry .d + r .geometry .parities) ≡ false → fetchWithheld (r .geometry) (flagAt r) (listedBy (r .geometry) l) a n ≡ false
   none-withheld a n t = none-any n (wanted (r .geometry) (withheld (r .geometry) (flagAt r) (listedBy (r .geometry) l)) a) (λ j _. sym (held-log ((a + j) / r .geometry .d) ((a + j) % r .geometry .d) t))
 
 -- no block is on a failed disk where no array member has failed
 pub role-sound : (r : Shelf) → arrayFailed (r .geometry) (flagAt r) ≡ false → (x i : ℕ) → i < arrayMembers (r .geometry) → failedRole r x i ≡ false
-role-sound r e x i h = any-none (arrayMembers (r .geometry)) (flagAt r) e (memberAt (r .geometry) x i) (one-to-one (r .geometry .layout) (r .geometry .d) x .within i h)
+role-sound r e x i h = any-none (arrayMembers (r .geometry)) (flagAt r) e (memberAt (r .geometry) x i) (one-to-one (r .geometry .layout) (r .geometry .d) (r .geometry .parities) x .within i h)
 
 pub wanted-sound : (r : Shelf) → 0 < r .geometry .d → arrayFailed (r .geometry) (flagAt r) ≡ false → (a j : ℕ) → wanted (r .geometry) (failedRole r) a j ≡ false
 wanted-sound r pos e a j =

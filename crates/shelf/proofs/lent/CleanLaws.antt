@@ -5,7 +5,7 @@ use mathlib.Core.Bool.{Bool, true, false, _&&_}
 use mathlib.Core.List.{List}
 use mathlib.Core.Option.{none}
 use mathlib.Core.Path.{_≡_, refl, sym, ap, ap₂, _∙_, subst}
-use Prim.Native.Nat.{ℕ, _+_, _-_, _≤_, _<_}
+use Prim.Native.Nat.{ℕ, _-_, _≤_, _<_}
 use native.Mathlib.Decide.{decLt}
 use native.Mathlib.Omega.{arith}
 use lib.Dec.{ltb}
@@ -24,9 +24,9 @@ use Rattle.shelf.specs.Clean.{Clean}
 use Rattle.shelf.specs.Showing.{HoldsList}
 use Rattle.shelf.specs.declared.record.Geometry.{Geometry}
 use Rattle.shelf.specs.declared.record.Shelf.{Shelf}
-use Rattle.shelf.proofs.general.CountLaws.{any-none, none-any, count-more}
+use Rattle.shelf.proofs.general.CountLaws.{any-none, none-any}
 use Rattle.shelf.proofs.general.TestLaws.{clash, and-fine}
-use Rattle.shelf.proofs.numbers.InputLaws.{in-range, Fine, fine-record, lengths-pass}
+use Rattle.shelf.proofs.numbers.InputLaws.{in-range, Fine, fine-record, few-flags, lengths-pass}
 use Rattle.shelf.proofs.agreement.ListedLaws.{never-some, none-listed, none-marks}
 use Rattle.shelf.proofs.agreement.Agreement.{Agrees}
 use Rattle.shelf.proofs.agreement.ReadLaws.{block-exact}
@@ -39,12 +39,8 @@ module _ (r : Shelf) (Y : InRange (r .geometry)) (fine : badRecord r ≡ false) 
   F : Fine r
   F = fine-record r fine
 
-  few : count (allMembers (r .geometry)) (flagAt r) ≤ 2
-  few =
-      let all : r .geometry .d + 3 + (19 - (r .geometry .d + 3)) ≡ 19 = omega (arith, Y .d-most) in
-      let more = count-more (r .geometry .d + 3) (19 - (r .geometry .d + 3)) (flagAt r) in
-      let two = ltb-false 2 (count 19 (flagAt r)) (F .few) in
-      omega (arith, two, subst (λ (k : ℕ). count (r .geometry .d + 3) (flagAt r) ≤ count k (flagAt r)) all more)
+  few : count (allMembers (r .geometry)) (flagAt r) ≤ r .geometry .parities
+  few = few-flags r fine (allMembers (r .geometry)) (omega (arith, Y .d-most, Y .parities-most))
 
   top : length (r .failed) ≡ 19 → (i : ℕ) → allMembers (r .geometry) ≤ i → flagAt r i ≡ false
   top long i o =
@@ -127,10 +123,9 @@ module _ (h : Lent) (b : Book) (C : Clean (h .shelf .geometry) h b) where
                     oris = λ x i hx hi r e. absurd (never-some (sym (ori-none x i hx hi) ∙ e));
                     curs = λ x i hx hi r e. absurd (never-some (sym (cur-none x i hx hi) ∙ e));
                   };
-              p = λ x hx f. C .parity x hx .p f;
-              q = λ x hx f. C .parity x hx .q f;
+              parity = λ x p hx. C .parity x hx .each p;
               whole = λ x i j hx hi _ _ e. clash e (not-listed x i hx hi);
-              two = few (h .shelf) Y (C .fine);
+              few = few (h .shelf) Y (C .fine);
               one = λ e. absurd (omega (arith, e, C .mode));
             };
         valid =

@@ -12,7 +12,7 @@ use borrow.Author.Tests.{le-ltb}
 use Rattle.stripe.specs.Blocks.{block, gen}
 use Rattle.stripe.proofs.Laws.{length-block, getD-block, length-gen, getD-gen, fits, place-lt}
 use Rattle.shelf.specs.Counting.{count, bit}
-use Rattle.shelf.specs.Members.{InRange, allMembers, blank, addressOf, placeAt}
+use Rattle.shelf.specs.Members.{InRange, arrayMembers, allMembers, parityRole, blank, addressOf, placeAt}
 use Rattle.shelf.specs.State.{freshState, listed, isSome}
 use Rattle.shelf.specs.Book.{freshBook}
 use Rattle.shelf.specs.Words.{words}
@@ -29,9 +29,9 @@ use Rattle.shelf.proofs.hashlist.ListMeaning.{encode-none, none-valid, 
 use Rattle.shelf.specs.Showing.{HoldsList}
 use Rattle.shelf.proofs.hashlist.ListMarks.{none-record}
 use Rattle.shelf.proofs.lent.ListLayout.{list-laid}
-use Rattle.shelf.proofs.lent.LayoutLaws.{array-is, log-is, role-data, role-p, role-q, by-role}
+use Rattle.shelf.proofs.lent.LayoutLaws.{array-is, log-is, role-data, role-parity, by-role}
 use Rattle.shelf.proofs.agreement.ListedLaws.{no-marks}
-use Rattle.shelf.proofs.agreement.RowParity.{blankP, blankQ, blank-block}
+use Rattle.shelf.proofs.agreement.RowParity.{blankParity, blank-block}
 
 -- ---- zeros
 
@@ -51,8 +51,8 @@ block-zeros g n N h =
     (λ j p. let q : j < g .b = omega (arith, len) in
     getD-block (g .b) n (replicate (N * g .b) 0) j q ∙ byte-zeros (N * g .b) (n * g .b + j) ∙ sym (getD-gen (g .b) (λ _. 0) j q))
 
-array-zeros : (g : Geometry) (x i : ℕ) → x < g .s → i < g .d + 2 → arrayBlock g (replicate (arrayLength g) 0) x i ≡ blank g
-array-zeros g x i hx hi = block-zeros g (placeAt g x i) ((g .d + 2) * g .s) (place-lt (g .layout) (g .d) (g .s) x i hx hi)
+array-zeros : (g : Geometry) (x i : ℕ) → x < g .s → i < arrayMembers g → arrayBlock g (replicate (arrayLength g) 0) x i ≡ blank g
+array-zeros g x i hx hi = block-zeros g (placeAt g x i) (arrayMembers g * g .s) (place-lt (g .layout) (g .d) (g .parities) (g .s) x i hx hi)
 
 no-flag : (n i : ℕ) → flag (replicate n false) i ≡ false
 no-flag zero i = refl
@@ -98,7 +98,7 @@ fresh-leaves g Y =
     record {
       shelf = λ i. record { geometry = g; mode = 0; next = 0; listed = sym (no-marks g) i; failed = replicate 19 false };
       array = array-is g (freshState g) (replicate (arrayLength g) 0) (Y .s-least) (length-replicate (arrayLength g) 0)
-          (λ x i hx hi. by-role g (λ j. roleBlock g (freshState g) x j ≡ blank g) (λ j hj. role-data g (freshState g) x j hj) (role-p g (freshState g) x) (role-q g (freshState g) x) i hi
+          (λ x i hx hi. by-role g (λ j. roleBlock g (freshState g) x j ≡ blank g) (λ j hj. role-data g (freshState g) x j hj) (λ p _. role-parity g (freshState g) x p) i hi
           ∙ sym (array-zeros g x i hx hi));
       log = log-is g (freshState g) (replicate (logLength g) 0) (length-replicate (logLength g) 0) (λ r hr. sym (block-zeros g r (g .l) hr));
       list = list-laid g (freshState g) 0 (noneList g) Y (fresh-says g Y) (none-below g);
@@ -112,7 +112,7 @@ fresh-record g =
       modes = refl;
       above = none-any 19 (flagFrom (replicate 19 false) (allMembers g))
           (λ i _. and-fine (leb (allMembers g) i) (flag (replicate 19 false) i) (λ _. no-flag 19 i));
-      few = refl;
+      few = le-ltb (g .parities) 0 (omega arith);
       room = le-ltb (g .l) 0 (omega arith);
       fits = le-ltb (g .e) 0 (omega arith);
       idle = refl;
@@ -138,6 +138,5 @@ fresh-clean g Y =
       marks = refl;
       blocks = λ x i _ _. blank-block g;
       sound = λ x i hx hi _. array-zeros g x i hx (omega arith);
-      parity = λ x hx.
-          record { p = λ _. array-zeros g x (g .d) hx (omega arith) ∙ sym (blankP g); q = λ _. array-zeros g x (g .d + 1) hx (omega arith) ∙ sym (blankQ g) };
+      parity = λ x hx. record { each = λ p hp _. array-zeros g x (parityRole g p) hx (omega arith) ∙ sym (blankParity g p) };
     }

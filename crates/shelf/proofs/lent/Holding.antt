@@ -13,7 +13,7 @@ use lib.ListN.{length, List·getD-eq-default}
 use borrow.Author.Tests.{ne-eqb, le-ltb, leb-true, eqb-true}
 use Rattle.stripe.specs.Blocks.{block}
 use Rattle.shelf.specs.Counting.{bit, count, any}
-use Rattle.shelf.specs.Members.{InRange, logMember}
+use Rattle.shelf.specs.Members.{Sized, InRange, logMember}
 use Rattle.shelf.specs.State.{State, isSome, listed, marksIn}
 use Rattle.shelf.specs.Status.{Call}
 use Rattle.shelf.specs.Calls.{code}
@@ -27,12 +27,12 @@ use Rattle.shelf.specs.declared.record.Geometry.{Geometry}
 use Rattle.shelf.specs.declared.record.Shelf.{Shelf}
 use Rattle.shelf.proofs.general.TestLaws.{and-fine}
 use Rattle.shelf.proofs.general.CountLaws.{none-any}
-use Rattle.shelf.proofs.numbers.InputLaws.{Fine, record-fine, Passed, passed-number}
-use Rattle.shelf.proofs.lent.LayoutLaws.{array-length, array-back, log-length, log-back, role-data, role-p, role-q, flags-length, flag-back}
+use Rattle.shelf.proofs.numbers.InputLaws.{sized, Fine, record-fine, Passed, passed-number}
+use Rattle.shelf.proofs.lent.LayoutLaws.{array-length, array-back, log-length, log-back, role-data, role-parity, flags-length, flag-back}
 use Rattle.shelf.proofs.lent.ListLayout.{laid-holds}
 use Rattle.shelf.proofs.agreement.ListedLaws.{marksIn-ext}
 use Rattle.shelf.proofs.agreement.Agreement.{Agrees, Alike, alike-agrees}
-use Rattle.shelf.proofs.lent.HeldBlocks.{disk-block, p-block, q-block}
+use Rattle.shelf.proofs.lent.HeldBlocks.{disk-block, parity-block}
 use Rattle.shelf.proofs.agreement.Steps.{says, keeps, book-accepted, book-refused}
 
 -- What is lent agrees with the book as a state, and passes rows 1 to 3.
@@ -56,7 +56,7 @@ count-top n (suc m) f h =
     let e : bit (f (n + m)) ≡ 0 = ap bit (h (n + m) (omega arith)) in
     ap (λ (k : ℕ). count k f) q ∙ omega (arith, count-top n m f h, e)
 
-module _ (h : Lent) (b : Book) (small : h .shelf .geometry .d ≤ 16) (H : Holds h b) where
+module _ (h : Lent) (b : Book) (small : Sized (h .shelf .geometry)) (H : Holds h b) where
   abbrev r : Shelf
   r = h .shelf
 
@@ -69,17 +69,17 @@ module _ (h : Lent) (b : Book) (small : h .shelf .geometry .d ≤ 16) (H : Holds
   none-listed : eqb (r .listed) 0 ≡ true → marksIn g (listed (stateOf h .log)) ≡ 0
   none-listed e = sym (H .listed-are) ∙ eqb-true (r .listed) 0 e
 
-  flags-count : count 19 (flagAt r) ≡ count (g .d + 3) (flagAt r)
+  flags-count : count 19 (flagAt r) ≡ count (g .d + g .parities + 1) (flagAt r)
   unfolding stateOf
   flags-count =
-      (let q : 19 ≡ g .d + 3 + (19 - (g .d + 3)) = omega arith in ap (λ (k : ℕ). count k (flagAt r)) q)
-      ∙ count-top (g .d + 3) (19 - (g .d + 3)) (flagAt r) (A .valid .top)
+      (let q : 19 ≡ g .d + g .parities + 1 + (19 - (g .d + g .parities + 1)) = omega (arith, small .0, small .1 .1) in ap (λ (k : ℕ). count k (flagAt r)) q)
+      ∙ count-top (g .d + g .parities + 1) (19 - (g .d + g .parities + 1)) (flagAt r) (A .valid .top)
 
-  none-above : any 19 (flagFrom (r .failed) (g .d + 3)) ≡ false
+  none-above : any 19 (flagFrom (r .failed) (g .d + g .parities + 1)) ≡ false
   unfolding stateOf
   none-above =
-      none-any 19 (flagFrom (r .failed) (g .d + 3))
-      (λ i _. and-fine (leb (g .d + 3) i) (flagAt r i) (λ t. A .valid .top i (leb-true (g .d + 3) i t)))
+      none-any 19 (flagFrom (r .failed) (g .d + g .parities + 1))
+      (λ i _. and-fine (leb (g .d + g .parities + 1) i) (flagAt r i) (λ t. A .valid .top i (leb-true (g .d + g .parities + 1) i t)))
 
   fine : Fine r
   unfolding stateOf
@@ -87,7 +87,7 @@ module _ (h : Lent) (b : Book) (small : h .shelf .geometry .d ≤ 16) (H : Holds
       record {
         modes = le-ltb 2 (r .mode) (A .valid .modes);
         above = none-above;
-        few = le-ltb 2 (count 19 (flagAt r)) (omega (arith, flags-count, A .near .two));
+        few = le-ltb (r .geometry .parities) (count 19 (flagAt r)) (omega (arith, flags-count, A .near .few));
         room = le-ltb (g .l) (r .next) (A .valid .room);
         fits = le-ltb (g .e) (r .listed) (omega (arith, H .listed-are, A .valid .fits));
         idle = and-fine (eqb (r .listed) 0) (ltb 0 (r .next)) (λ e. le-ltb 0 (r .next) (omega (arith, A .idle (none-listed e) .0)));
@@ -101,7 +101,7 @@ module _ (h : Lent) (b : Book) (small : h .shelf .geometry .d ≤ 16) (H : Holds
 -- rows 1 to 3 pass
 pub holds-passed : (h : Lent) (b : Book) → InRange (h .shelf .geometry) → Holds h b → Passed (h .shelf) (length (h .array)) (length (h .log)) (h .list)
 holds-passed h b Y H =
-    record { range = Y; fine = record-fine (h .shelf) (fine h b (Y .d-most) H); array = H .array; log = H .log; list = H .list; valid = H .passes }
+    record { range = Y; fine = record-fine (h .shelf) (fine h b (sized Y) H); array = H .array; log = H .log; list = H .list; valid = H .passes }
 
 -- the number that a call gets is the book's
 pub number-book : (h : Lent) (b : Book) → InRange (h .shelf .geometry) → Holds h b → (c : Call)
@@ -141,14 +141,14 @@ module _ {g : Geometry} (Y : InRange g) {s : State} {b : Book} (A : Agrees g s b
       record {
         disk = λ x i hx hi f.
             array-back g s x i hx (omega arith) (ap length (role-data g s x i hi) ∙ disk-block A x i hx hi f .0) ∙ role-data g s x i hi;
-        p = λ x hx f. array-back g s x (g .d) hx (omega arith) (ap length (role-p g s x) ∙ p-block A x hx f .0) ∙ role-p g s x;
-        q = λ x hx f. array-back g s x (g .d + 1) hx (omega arith) (ap length (role-q g s x) ∙ q-block A x hx f .0) ∙ role-q g s x;
+        parity = λ x p hx hp f.
+            array-back g s x (g .d + p) hx (omega arith) (ap length (role-parity g s x p) ∙ parity-block A x p hx hp f .0) ∙ role-parity g s x p;
         log = λ r hr f e. log-back g s r hr e;
         next = refl;
         ori = listing .ori;
         cur = listing .cur;
         mode = refl;
-        failed = flags-back (s .failed) (λ i h. A .valid .top i (omega (arith, Y .d-most)));
+        failed = flags-back (s .failed) (λ i h. A .valid .top i (omega (arith, Y .d-most, Y .parities-most)));
       }
 
   laid-marks : marksIn g (listed (s .log)) ≡ marksIn g (listed (stateOf (lent (recordOf g s) (arrayOf g s) (logOf g s) (listOf g s)) .log))
@@ -178,8 +178,7 @@ module _ (r : Shelf) (a n l a' n' : List ℕ) (C : Changed (r .geometry) (lent r
   changed-alike =
       record {
         disk = λ x i hx hi f. C .array x i hx (omega arith) f;
-        p = λ x hx f. C .array x (r .geometry .d) hx (omega arith) f;
-        q = λ x hx f. C .array x (r .geometry .d + 1) hx (omega arith) f;
+        parity = λ x p hx hp f. C .array x (r .geometry .d + p) hx (omega arith) f;
         log = λ k _ f _. ap (block (r .geometry .b) k) (C .log f);
         next = refl;
         ori = λ x i _ _. refl;

@@ -3,19 +3,19 @@
 use mathlib.Core.Bool.{Bool, false}
 use mathlib.Core.List.{List, _++_}
 use mathlib.Core.Path.{_≡_, refl, sym, ap, ap₂, _∙_, subst}
-use Prim.Native.Nat.{ℕ, zero, suc, _+_, _*_, _/_, _%_, _<_}
+use Prim.Native.Nat.{ℕ, zero, suc, _+_, _-_, _*_, _/_, _%_, _<_}
 use native.Mathlib.Decide.{decLt}
 use native.Mathlib.Nat.{mul-add-div-right, mul-add-mod-self-right, div-eq-of-lt, mod-eq-of-lt, mod-lt, div-add-mod', div-lt-iff-lt-mul}
 use native.Mathlib.Omega.{arith}
 use lib.Dec.{eqb, ltb}
 use lib.ListN.{length, getD}
 use lib.Seq.{ext-getD}
-use borrow.Author.Tests.{lt-ltb, le-ltb, eq-eqb, ne-eqb, eqb-true}
+use borrow.Author.Tests.{lt-ltb, le-ltb, eq-eqb, eqb-true}
 use Rattle.stripe.specs.Blocks.{gen, block, byteOf, blocksOf}
 use Rattle.stripe.specs.Places.{place, memberOf}
 use Rattle.stripe.proofs.Laws.{one-to-one, place-lt, fits, length-block, getD-block, ext-block, length-blocksOf, byteOf-blocksOf}
-use Rattle.shelf.specs.Counting.{choose, first}
-use Rattle.shelf.specs.Members.{roleP, memberAt}
+use Rattle.shelf.specs.Counting.{first}
+use Rattle.shelf.specs.Members.{memberAt}
 use Rattle.shelf.specs.State.{State}
 use Rattle.shelf.specs.Lent.{arrayBlock, arrayLength, logLength, roleOf, roleBlock, arrayOf, logOf, flagsFrom, flagsOf}
 use Rattle.shelf.specs.declared.record.Geometry.{Geometry}
@@ -52,17 +52,17 @@ blocksOf-same (suc N) b u f same =
 -- ---- the array
 
 -- the role of the member that has role i
-role-back : (g : Geometry) (x i : ℕ) → i < g .d + 2 → roleOf g x (memberAt g x i) ≡ i
+role-back : (g : Geometry) (x i : ℕ) → i < g .d + g .parities → roleOf g x (memberAt g x i) ≡ i
 unfolding roleOf
 role-back g x i h =
-    let f = first-found (g .d + 2) (λ k. eqb (memberAt g x k) (memberAt g x i)) (any-some (g .d + 2) (λ k. eqb (memberAt g x k) (memberAt g x i)) i h (eq-eqb (memberAt g x i) (memberAt g x i) refl)) in
-    one-to-one (g .layout) (g .d) x .own (first (g .d + 2) (λ k. eqb (memberAt g x k) (memberAt g x i))) i (f .0) h (eqb-true (memberAt g x (first (g .d + 2) (λ k. eqb (memberAt g x k) (memberAt g x i)))) (memberAt g x i) (f .1))
+    let f = first-found (g .d + g .parities) (λ k. eqb (memberAt g x k) (memberAt g x i)) (any-some (g .d + g .parities) (λ k. eqb (memberAt g x k) (memberAt g x i)) i h (eq-eqb (memberAt g x i) (memberAt g x i) refl)) in
+    one-to-one (g .layout) (g .d) (g .parities) x .own (first (g .d + g .parities) (λ k. eqb (memberAt g x k) (memberAt g x i))) i (f .0) h (eqb-true (memberAt g x (first (g .d + g .parities) (λ k. eqb (memberAt g x k) (memberAt g x i)))) (memberAt g x i) (f .1))
 
-role-there : (g : Geometry) (x m : ℕ) → m < g .d + 2 → (roleOf g x m < g .d + 2) × (memberAt g x (roleOf g x m) ≡ m)
+role-there : (g : Geometry) (x m : ℕ) → m < g .d + g .parities → (roleOf g x m < g .d + g .parities) × (memberAt g x (roleOf g x m) ≡ m)
 role-there g x m h =
-    let o = one-to-one (g .layout) (g .d) x .onto m h in
+    let o = one-to-one (g .layout) (g .d) (g .parities) x .onto m h in
     let e : roleOf g x m ≡ o .0 = ap (roleOf g x) (sym (o .2)) ∙ role-back g x (o .0) (o .1) in
-    (subst (λ (k : ℕ). k < g .d + 2) (sym e) (o .1), ap (memberAt g x) e ∙ o .2)
+    (subst (λ (k : ℕ). k < g .d + g .parities) (sym e) (o .1), ap (memberAt g x) e ∙ o .2)
 
 -- the member and the stripe of a block number
 number-member : (S m x : ℕ) → x < S → (m * S + x) / S ≡ m
@@ -73,28 +73,28 @@ number-stripe S m x h = mul-add-mod-self-right m S x ∙ mod-eq-of-lt h
 
 pub array-length : (g : Geometry) (s : State) → length (arrayOf g s) ≡ arrayLength g
 unfolding arrayOf
-array-length g s = length-blocksOf ((g .d + 2) * g .s) (g .b) (λ n j. getD (roleBlock g s (n % g .s) (roleOf g (n % g .s) (n / g .s))) j 0)
+array-length g s = length-blocksOf ((g .d + g .parities) * g .s) (g .b) (λ n j. getD (roleBlock g s (n % g .s) (roleOf g (n % g .s) (n / g .s))) j 0)
 
 -- a state's block, read where it was laid out
-pub array-back : (g : Geometry) (s : State) (x i : ℕ) → x < g .s → i < g .d + 2 → length (roleBlock g s x i) ≡ g .b → arrayBlock g (arrayOf g s) x i ≡ roleBlock g s x i
+pub array-back : (g : Geometry) (s : State) (x i : ℕ) → x < g .s → i < g .d + g .parities → length (roleBlock g s x i) ≡ g .b → arrayBlock g (arrayOf g s) x i ≡ roleBlock g s x i
 unfolding arrayOf place
 array-back g s x i hx hi e =
     let f : ℕ → List ℕ = λ n. roleBlock g s (n % g .s) (roleOf g (n % g .s) (n / g .s)) in
-    let n : ℕ = memberOf (g .layout) (g .d) x i * g .s + x in
+    let n : ℕ = memberOf (g .layout) (g .d) (g .parities) x i * g .s + x in
     let q : roleBlock g s (n % g .s) (roleOf g (n % g .s) (n / g .s)) ≡ roleBlock g s x i =
-    ap₂ (λ (y m : ℕ). roleBlock g s y (roleOf g y m)) (number-stripe (g .s) (memberOf (g .layout) (g .d) x i) x hx) (number-member (g .s) (memberOf (g .layout) (g .d) x i) x hx)
+    ap₂ (λ (y m : ℕ). roleBlock g s y (roleOf g y m)) (number-stripe (g .s) (memberOf (g .layout) (g .d) (g .parities) x i) x hx) (number-member (g .s) (memberOf (g .layout) (g .d) (g .parities) x i) x hx)
     ∙ ap (roleBlock g s x) (role-back g x i hi) in
-    block-blocksOf ((g .d + 2) * g .s) (g .b) (λ k. roleBlock g s (k % g .s) (roleOf g (k % g .s) (k / g .s))) (memberOf (g .layout) (g .d) x i * g .s + x)
-    (unfold place in place-lt (g .layout) (g .d) (g .s) x i hx hi) (ap length q ∙ e) ∙ q
+    block-blocksOf ((g .d + g .parities) * g .s) (g .b) (λ k. roleBlock g s (k % g .s) (roleOf g (k % g .s) (k / g .s))) (memberOf (g .layout) (g .d) (g .parities) x i * g .s + x)
+    (unfold place in place-lt (g .layout) (g .d) (g .parities) (g .s) x i hx hi) (ap length q ∙ e) ∙ q
 
 -- an array whose blocks are a state's is what the state is laid out as
 pub array-is : (g : Geometry) (s : State) (a : List ℕ) → 0 < g .s → length a ≡ arrayLength g
-    → ((x i : ℕ) → x < g .s → i < g .d + 2 → roleBlock g s x i ≡ arrayBlock g a x i) → a ≡ arrayOf g s
+    → ((x i : ℕ) → x < g .s → i < g .d + g .parities → roleBlock g s x i ≡ arrayBlock g a x i) → a ≡ arrayOf g s
 unfolding arrayOf place
 array-is g s a pos e same =
-    blocksOf-back ((g .d + 2) * g .s) (g .b) (λ n. roleBlock g s (n % g .s) (roleOf g (n % g .s) (n / g .s))) a e
+    blocksOf-back ((g .d + g .parities) * g .s) (g .b) (λ n. roleBlock g s (n % g .s) (roleOf g (n % g .s) (n / g .s))) a e
     (λ n h.
-    let hm : n / g .s < g .d + 2 = div-lt-iff-lt-mul pos .1 h in
+    let hm : n / g .s < g .d + g .parities = div-lt-iff-lt-mul pos .1 h in
     let r = role-there g (n % g .s) (n / g .s) hm in
     same (n % g .s) (roleOf g (n % g .s) (n / g .s)) (mod-lt n pos) (r .0)
     ∙ ap (λ (k : ℕ). block (g .b) k a) (ap (λ (m : ℕ). m * g .s + n % g .s) (r .1) ∙ div-add-mod' n (g .s)))
@@ -102,26 +102,17 @@ array-is g s a pos e same =
 -- ---- a stripe's roles
 
 pub role-data : (g : Geometry) (s : State) (x i : ℕ) → i < g .d → roleBlock g s x i ≡ s .disk x i
-role-data g s x i h = choose-true (ltb i (g .d)) (s .disk x i) (choose (eqb i (roleP g)) (s .p x) (s .q x)) (lt-ltb i (g .d) h)
+role-data g s x i h = choose-true (ltb i (g .d)) (s .disk x i) (s .parity x (i - g .d)) (lt-ltb i (g .d) h)
 
-pub role-p : (g : Geometry) (s : State) (x : ℕ) → roleBlock g s x (g .d) ≡ s .p x
-role-p g s x =
-    choose-false (ltb (g .d) (g .d)) (s .disk x (g .d)) (choose (eqb (g .d) (g .d)) (s .p x) (s .q x)) (le-ltb (g .d) (g .d) (omega arith))
-    ∙ choose-true (eqb (g .d) (g .d)) (s .p x) (s .q x) (eq-eqb (g .d) (g .d) refl)
+pub role-parity : (g : Geometry) (s : State) (x p : ℕ) → roleBlock g s x (g .d + p) ≡ s .parity x p
+role-parity g s x p =
+    choose-false (ltb (g .d + p) (g .d)) (s .disk x (g .d + p)) (s .parity x (g .d + p - g .d)) (le-ltb (g .d + p) (g .d) (omega arith))
+    ∙ ap (s .parity x) (let z : g .d + p - g .d ≡ p = omega arith in z)
 
-pub role-q : (g : Geometry) (s : State) (x : ℕ) → roleBlock g s x (g .d + 1) ≡ s .q x
-role-q g s x =
-    choose-false (ltb (g .d + 1) (g .d)) (s .disk x (g .d + 1)) (choose (eqb (g .d + 1) (g .d)) (s .p x) (s .q x)) (le-ltb (g .d + 1) (g .d) (omega arith))
-    ∙ choose-false (eqb (g .d + 1) (g .d)) (s .p x) (s .q x) (ne-eqb (g .d + 1) (g .d) (λ e. omega arith))
-
--- role by role: data, P, Q
-pub by-role : (g : Geometry) (P : ℕ → Type 0) → ((i : ℕ) → i < g .d → P i) → P (g .d) → P (g .d + 1) → (i : ℕ) → i < g .d + 2 → P i
-by-role g P data-case p-case q-case i h =
-    elim (decLt i (g .d)) [
-      | yes l ↦ data-case i l
-      | no l ↦ elim (decLt i (g .d + 1))
-          [ yes k ↦ (let e : g .d ≡ i = omega arith in subst P e p-case) | no k ↦ (let e : g .d + 1 ≡ i = omega arith in subst P e q-case) ]
-    ]
+-- role by role: data, and the parities
+pub by-role : (g : Geometry) (P : ℕ → Type 0) → ((i : ℕ) → i < g .d → P i) → ((p : ℕ) → p < g .parities → P (g .d + p)) → (i : ℕ) → i < g .d + g .parities → P i
+by-role g P data-case parity-case i h =
+    elim (decLt i (g .d)) [ yes l ↦ data-case i l | no l ↦ (let e : g .d + (i - g .d) ≡ i = omega arith in subst P e (parity-case (i - g .d) (omega arith))) ]
 
 -- ---- the log
 

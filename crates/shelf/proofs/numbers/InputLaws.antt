@@ -3,15 +3,15 @@
 use mathlib.Core.Bool.{Bool, true, false, not, _&&_, _||_}
 use mathlib.Core.List.{List}
 use mathlib.Core.Logic.{_≢_}
-use mathlib.Core.Path.{_≡_, refl, sym, ap, ap₂}
-use Prim.Native.Nat.{ℕ, _+_, _*_, _≤_, _<_}
+use mathlib.Core.Path.{_≡_, refl, sym, ap, ap₂, subst}
+use Prim.Native.Nat.{ℕ, _+_, _-_, _*_, _≤_, _<_}
 use native.Mathlib.Nat.{mul-le-mul}
 use native.Mathlib.Omega.{arith}
 use lib.Dec.{eqb, ltb}
 use lib.ListN.{length}
 use borrow.Author.Tests.{eq-eqb, le-ltb, eqb-true, ltb-false}
 use Rattle.shelf.specs.Counting.{count, any}
-use Rattle.shelf.specs.Members.{InRange, logMember, allMembers}
+use Rattle.shelf.specs.Members.{InRange, Sized, logMember, allMembers}
 use Rattle.shelf.specs.Status.{Call, codeOf}
 use Rattle.shelf.specs.Words.{words}
 use Rattle.shelf.specs.HashList.{Measures, valid}
@@ -19,6 +19,7 @@ use Rattle.shelf.specs.Lent.{flagAt, flagFrom, outside, badMeasures, bad
 use Rattle.shelf.specs.declared.record.Geometry.{Geometry}
 use Rattle.shelf.specs.declared.record.Shelf.{Shelf}
 use Rattle.shelf.proofs.numbers.TableRows.{row-zero, row-pass, row-same, row-below}
+use Rattle.shelf.proofs.general.CountLaws.{count-more}
 use Rattle.shelf.proofs.general.TestLaws.{not-off, and-fine, or-left, or-right}
 
 -- ---- measures
@@ -32,7 +33,8 @@ inside low high x e =
 pub in-range : (g : Geometry) → badMeasures g ≡ false → InRange g
 unfolding badMeasures
 in-range g bad =
-    let t6 : Bool = outside 1 4096 (g .e) || ltb 1 (g .layout) in
+    let t7 : Bool = ltb 1 (g .layout) || outside 1 2 (g .parities) in
+    let t6 : Bool = outside 1 4096 (g .e) || t7 in
     let t5 : Bool = outside 1 256 (g .h) || t6 in
     let t4 : Bool = outside 1 65536 (g .l) || t5 in
     let t3 : Bool = outside 1 4096 (g .b) || t4 in
@@ -42,13 +44,15 @@ in-range g bad =
     let e4 : t4 ≡ false = or-right (outside 1 4096 (g .b)) t4 e3 in
     let e5 : t5 ≡ false = or-right (outside 1 65536 (g .l)) t5 e4 in
     let e6 : t6 ≡ false = or-right (outside 1 256 (g .h)) t6 e5 in
+    let e7 : t7 ≡ false = or-right (outside 1 4096 (g .e)) t7 e6 in
     let d = inside 2 16 (g .d) (or-left (outside 2 16 (g .d)) t2 bad) in
     let s = inside 1 65536 (g .s) (or-left (outside 1 65536 (g .s)) t3 e2) in
     let b = inside 1 4096 (g .b) (or-left (outside 1 4096 (g .b)) t4 e3) in
     let l = inside 1 65536 (g .l) (or-left (outside 1 65536 (g .l)) t5 e4) in
     let h = inside 1 256 (g .h) (or-left (outside 1 256 (g .h)) t6 e5) in
-    let e = inside 1 4096 (g .e) (or-left (outside 1 4096 (g .e)) (ltb 1 (g .layout)) e6) in
-    let layout = ltb-false 1 (g .layout) (or-right (outside 1 4096 (g .e)) (ltb 1 (g .layout)) e6) in
+    let e = inside 1 4096 (g .e) (or-left (outside 1 4096 (g .e)) t7 e6) in
+    let layout = ltb-false 1 (g .layout) (or-left (ltb 1 (g .layout)) (outside 1 2 (g .parities)) e7) in
+    let k = inside 1 2 (g .parities) (or-right (ltb 1 (g .layout)) (outside 1 2 (g .parities)) e7) in
     record {
       d-least = d .0;
       d-most = d .1;
@@ -63,7 +67,12 @@ in-range g bad =
       e-least = e .0;
       e-most = e .1;
       layout-most = omega arith;
+      parities-least = k .0;
+      parities-most = k .1;
     }
+
+pub sized : {g : Geometry} → InRange g → Sized g
+sized Y = (Y .d-most, (Y .parities-least, Y .parities-most))
 
 -- and back
 fits-in : (low high x : ℕ) → low ≤ x → x ≤ high → outside low high x ≡ false
@@ -75,14 +84,14 @@ measures-fine g Y =
     ap₂ _||_ (fits-in 2 16 (g .d) (Y .d-least) (Y .d-most)) (ap₂ _||_ (fits-in 1 65536 (g .s) (Y .s-least) (Y .s-most))
     (ap₂ _||_ (fits-in 1 4096 (g .b) (Y .b-least) (Y .b-most)) (ap₂ _||_ (fits-in 1 65536 (g .l) (Y .l-least) (Y .l-most))
     (ap₂ _||_ (fits-in 1 256 (g .h) (Y .h-least) (Y .h-most)) (ap₂ _||_ (fits-in 1 4096 (g .e) (Y .e-least) (Y .e-most))
-    (le-ltb 1 (g .layout) (Y .layout-most)))))))
+    (ap₂ _||_ (le-ltb 1 (g .layout) (Y .layout-most)) (fits-in 1 2 (g .parities) (Y .parities-least) (Y .parities-most))))))))
 
 -- products of measures in range are no large numbers
-pub array-small : (g : Geometry) → InRange g → ((g .d + 2) * g .s ≤ 1179648) × ((g .d + 2) * g .s * g .b ≤ 4831838208)
+pub array-small : (g : Geometry) → InRange g → ((g .d + g .parities) * g .s ≤ 1179648) × ((g .d + g .parities) * g .s * g .b ≤ 4831838208)
 array-small g Y =
-    let a : g .d + 2 ≤ 18 = omega (arith, Y .d-most) in
-    let b : (g .d + 2) * g .s ≤ 18 * 65536 = mul-le-mul a (Y .s-most) in
-    let c : (g .d + 2) * g .s * g .b ≤ 18 * 65536 * 4096 = mul-le-mul b (Y .b-most) in
+    let a : g .d + g .parities ≤ 18 = omega (arith, Y .d-most, Y .parities-most) in
+    let b : (g .d + g .parities) * g .s ≤ 18 * 65536 = mul-le-mul a (Y .s-most) in
+    let c : (g .d + g .parities) * g .s * g .b ≤ 18 * 65536 * 4096 = mul-le-mul b (Y .b-most) in
     (omega arith, omega arith)
 
 pub log-small : (g : Geometry) → InRange g → g .l * g .b ≤ 268435456
@@ -93,7 +102,7 @@ log-small g Y = let a : g .l * g .b ≤ 65536 * 4096 = mul-le-mul (Y .l-most) (Y
 pub record Fine (r : Shelf) : Type 0 where
   pub modes : ltb 2 (r .mode) ≡ false
   pub above : any 19 (flagFrom (r .failed) (allMembers (r .geometry))) ≡ false
-  pub few : ltb 2 (count 19 (flagAt r)) ≡ false
+  pub few : ltb (r .geometry .parities) (count 19 (flagAt r)) ≡ false
   pub room : ltb (r .geometry .l) (r .next) ≡ false
   pub fits : ltb (r .geometry .e) (r .listed) ≡ false
   pub idle : (eqb (r .listed) 0 && ltb 0 (r .next)) ≡ false
@@ -116,11 +125,11 @@ fine-record r bad =
     let t6 : Bool = (eqb (r .listed) 0 && ltb 0 (r .next)) || t7 in
     let t5 : Bool = ltb (r .geometry .e) (r .listed) || t6 in
     let t4 : Bool = ltb (r .geometry .l) (r .next) || t5 in
-    let t3 : Bool = ltb 2 (count 19 (flagAt r)) || t4 in
+    let t3 : Bool = ltb (r .geometry .parities) (count 19 (flagAt r)) || t4 in
     let t2 : Bool = any 19 (flagFrom (r .failed) (allMembers (r .geometry))) || t3 in
     let e2 : t2 ≡ false = or-right (ltb 2 (r .mode)) t2 bad in
     let e3 : t3 ≡ false = or-right (any 19 (flagFrom (r .failed) (allMembers (r .geometry)))) t3 e2 in
-    let e4 : t4 ≡ false = or-right (ltb 2 (count 19 (flagAt r))) t4 e3 in
+    let e4 : t4 ≡ false = or-right (ltb (r .geometry .parities) (count 19 (flagAt r))) t4 e3 in
     let e5 : t5 ≡ false = or-right (ltb (r .geometry .l) (r .next)) t5 e4 in
     let e6 : t6 ≡ false = or-right (ltb (r .geometry .e) (r .listed)) t6 e5 in
     let e7 : t7 ≡ false = or-right (eqb (r .listed) 0 && ltb 0 (r .next)) t7 e6 in
@@ -128,7 +137,7 @@ fine-record r bad =
     record {
       modes = or-left (ltb 2 (r .mode)) t2 bad;
       above = or-left (any 19 (flagFrom (r .failed) (allMembers (r .geometry)))) t3 e2;
-      few = or-left (ltb 2 (count 19 (flagAt r))) t4 e3;
+      few = or-left (ltb (r .geometry .parities) (count 19 (flagAt r))) t4 e3;
       room = or-left (ltb (r .geometry .l) (r .next)) t5 e4;
       fits = or-left (ltb (r .geometry .e) (r .listed)) t6 e5;
       idle = or-left (eqb (r .listed) 0 && ltb 0 (r .next)) t7 e6;
@@ -136,6 +145,13 @@ fine-record r bad =
       transitional = or-left (eqb (r .mode) 2 && eqb (r .listed) 0) t9 e8;
       accelerating = or-right (eqb (r .mode) 2 && eqb (r .listed) 0) t9 e8;
     }
+
+-- of the first n flags no more are set than there are parities
+pub few-flags : (r : Shelf) → badRecord r ≡ false → (n : ℕ) → n ≤ 19 → count n (flagAt r) ≤ r .geometry .parities
+few-flags r fine n h =
+    let few = ltb-false (r .geometry .parities) (count 19 (flagAt r)) (fine-record r fine .few) in
+    let all : n + (19 - n) ≡ 19 = omega arith in
+    omega (arith, few, subst (λ (m : ℕ). count n (flagAt r) ≤ count m (flagAt r)) all (count-more n (19 - n) (flagAt r)))
 
 -- ---- all that passing says
 

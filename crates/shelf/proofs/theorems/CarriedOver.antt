@@ -70,7 +70,7 @@ own-blocks h flags measures fine lengths mode bytes parity =
       list = refl;
       failed = refl;
       marks = refl;
-      blocks = λ x i hx hi. cut-block g (placeAt g x i) (arrayMembers g * g .s) (h .array) bytes (n .0) (place-lt (g .layout) (g .d) (g .s) x i hx (omega arith));
+      blocks = λ x i hx hi. cut-block g (placeAt g x i) (arrayMembers g * g .s) (h .array) bytes (n .0) (place-lt (g .layout) (g .d) (g .parities) (g .s) x i hx (omega arith));
       sound = λ x i _ _ _. refl;
-      parity = λ x hx. record { p = parity x hx .p; q = parity x hx .q };
+      parity = λ x hx. record { each = parity x hx .each };
     }

@@ -1,11 +1,12 @@
--- The customer's second demand. On a shelf reached from a fresh one, in every stripe not awaiting resynchronisation, the stored P and Q, each where
--- its disk is sound, equal those of Anvin's published RAID-6 mathematics for the blocks last written there (`stored-parity`); and up to two missing
--- blocks of a stripe that obeys it are worked back exactly (`recovered-stripe`, of the stripe crate).
+-- The customer's second demand. On a shelf reached from a fresh one, in every stripe not awaiting resynchronisation, each stored parity, P and,
+-- where there are two, Q, equals, where its disk is sound, that of Anvin's published RAID-6 mathematics for the blocks last written there
+-- (`stored-parity`); and as many missing blocks of a stripe that obeys it as it has parities are worked back exactly (`recovered-stripe`, of the
+-- stripe crate).
 -- Assumes nothing.
 use mathlib.Core.Bool.{false}
 use mathlib.Core.Path.{_≡_, _∙_, subst}
 use Prim.Native.Nat.{ℕ, _<_}
-use Rattle.shelf.specs.Members.{roleP, roleQ, memberAt, blockP, blockQ}
+use Rattle.shelf.specs.Members.{parityRole, memberAt, blockParity}
 use Rattle.shelf.specs.State.{State, stale}
 use Rattle.shelf.specs.Book.{Book}
 use Rattle.shelf.specs.Lent.{Lent, stateOf, badMeasures}
@@ -13,7 +14,7 @@ use Rattle.shelf.specs.Sequence.{Reached}
 use Rattle.shelf.specs.Clean.{Parity}
 use Rattle.shelf.specs.declared.record.Geometry.{Geometry}
 use Rattle.shelf.proofs.general.CountLaws.{any-none}
-use Rattle.shelf.proofs.agreement.RowParity.{blockP-ext, blockQ-ext}
+use Rattle.shelf.proofs.agreement.RowParity.{blockParity-ext}
 use Rattle.shelf.proofs.agreement.ListedLaws.{unlisted}
 use Rattle.shelf.proofs.agreement.Agreement.{Agrees}
 use Rattle.shelf.proofs.numbers.InputLaws.{in-range}
@@ -29,18 +30,15 @@ module _ {g : Geometry} {s : State} {b : Book} (A : Agrees g s b) (x : ℕ) (hx 
       A .near .noted .plain x i hx hi
       (unlisted (s .log) x i (A .near .marks x i hx hi ∙ any-none (g .d) (b .state .marks x) rest i hi) .1)
 
-  stored-P : s .failed (memberAt g x (roleP g)) ≡ false → s .p x ≡ blockP g (b .held x)
-  stored-P f = A .near .p x hx f ∙ blockP-ext g (A .near .orig x) (b .held x) held-orig
-
-  stored-Q : s .failed (memberAt g x (roleQ g)) ≡ false → s .q x ≡ blockQ g (b .held x)
-  stored-Q f = A .near .q x hx f ∙ blockQ-ext g (A .near .orig x) (b .held x) held-orig
+  stored : (p : ℕ) → p < g .parities → s .failed (memberAt g x (parityRole g p)) ≡ false → s .parity x p ≡ blockParity g p (b .held x)
+  stored p hp f = A .near .parity x p hx hp f ∙ blockParity-ext g p (A .near .orig x) (b .held x) held-orig
 
 -- ---- on what is lent
 
 parity-here : (h : Lent) (b : Book) → Holds h b → (x : ℕ) → x < h .shelf .geometry .s → stale (h .shelf .geometry) (b .state .marks) x ≡ false
     → Parity (h .shelf .geometry) h b x
 unfolding stateOf
-parity-here h b H x hx rest = record { p = stored-P (H .agrees) x hx rest; q = stored-Q (H .agrees) x hx rest }
+parity-here h b H x hx rest = record { each = stored (H .agrees) x hx rest }
 
 pub standing-parity : (g : Geometry) (h : Lent) (b : Book) → Stands g h b → (x : ℕ) → x < g .s → stale g (b .state .marks) x ≡ false → Parity g h b x
 standing-parity g h b S =

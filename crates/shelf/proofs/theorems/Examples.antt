@@ -3,20 +3,20 @@
 -- two in the rotating one, by shelf and by book, and the session's shelf as bytes: what format leaves, the layout of array, log and list, and the
 -- numbers 1 to 3.
 -- Assumes nothing.
-use mathlib.Core.Bool.{false}
+use mathlib.Core.Bool.{Bool, false, _||_}
 use mathlib.Core.List.{List, [], _∷_}
 use mathlib.Core.Path.{_≡_, refl}
 use Prim.Native.Nat.{ℕ, _/_, _%_}
-use lib.Dec.{eqb}
+use lib.Dec.{eqb, ltb}
 use lib.ListN.{length, getD, replicate}
 use Rattle.field.specs.Field.{double, pow2, timesLow, times, raised, inverse}
 use Rattle.stripe.specs.Blocks.{from, gen, block, byteOf, blocksOf}
-use Rattle.stripe.specs.Parity.{pick, sum, one, weight, parityP, parityQ, without, restP, restQ, fromP, fromQ, fromBoth, solved, dataSolved, recovered}
+use Rattle.stripe.specs.Parity.{pick, sum, one, weight, weightIn, parityP, parityQ, parityOf, without, restP, restQ, fromP, fromQ, fromBoth, solved, dataSolved, recovered}
 use Rattle.stripe.specs.Parity as parity
-use Rattle.stripe.specs.Places.{memberAfter, rotatingP, rotatingQ, rotatingData, rotating, fixed, memberOf, place}
-use Rattle.stripe.specs.Calls.{changed, eachColumn, badMeasures, badLength, badMember, accepted, makeCode, makeBuffer, recoverCode, recoverBuffer}
+use Rattle.stripe.specs.Places.{memberAfter, afterP, rotating, fixed, memberOf, place}
+use Rattle.stripe.specs.Calls.{changed, eachColumn, badMeasures, badLength, badMember, tooMany, accepted, makeCode, makeBuffer, membersCode, recoverCode, recoverBuffer}
 use Rattle.shelf.specs.Counting.{choose, bit, count, total, any, first, lesser, setAt}
-use Rattle.shelf.specs.Members.{logMember, roleP, roleQ, memberAt, addressOf, blank, blockP, blockQ, otherMissing, workedBack, stripeOf, indexOf}
+use Rattle.shelf.specs.Members.{logMember, parityRole, memberAt, addressOf, blank, blockParity, otherMissing, workedBack, stripeOf, indexOf}
 use Rattle.shelf.specs.State.{State, isSome, listed, marksIn, freshState}
 use Rattle.shelf.specs.Status.{Call, start, fail, write, read, fetch, resync, rebuild, newLog, fullResync, row, codeOf}
 use Rattle.shelf.specs.Calls.{settled, made, remade, reconstructs, appendOne, append, logged, writeStripe, written, writeTo, blockAt, resynced, rebuilt, work, code, after}
@@ -42,7 +42,7 @@ Holds (e ∷ es) = (e .got ≡ e .want) × Holds es
 
 -- a shelf of d data disks and two stripes: blocks of one byte, a log of four records, a list of two slots and four places
 abbrev pub small : ℕ → Geometry
-small d = record { d = d; s = 2; b = 1; l = 4; h = 2; e = 4; layout = 0 }
+small d = record { d = d; s = 2; b = 1; l = 4; h = 2; e = 4; layout = 0; parities = 2 }
 
 -- what calls leave, one after another
 unfoldable pub afterAll : Geometry → List Call → State → State
@@ -54,8 +54,7 @@ abbrev pub gone : Geometry → State → State
 gone g s =
     record {
       disk = λ x i. choose (s .failed (memberAt g x i)) (99 ∷ []) (s .disk x i);
-      p = λ x. choose (s .failed (memberAt g x (roleP g))) (99 ∷ []) (s .p x);
-      q = λ x. choose (s .failed (memberAt g x (roleQ g))) (99 ∷ []) (s .q x);
+      parity = λ x p. choose (s .failed (memberAt g x (parityRole g p))) (99 ∷ []) (s .parity x p);
       log =
           record {
             value = λ r. choose (s .failed (logMember g)) (77 ∷ []) (s .log .value r);
@@ -91,10 +90,10 @@ examples =
     ex (pow2 15 ∷ []) (38 ∷ []) ∷
     ex (times 2 142 ∷ []) (1 ∷ []) ∷
     -- K4 to K7: stripes of one-byte blocks, data, P and Q; 77 and 88 are bytes of no meaning
-    ex (makeBuffer 3 1 (1 ∷ 2 ∷ 3 ∷ 77 ∷ 88 ∷ [])) (1 ∷ 2 ∷ 3 ∷ 0 ∷ 9 ∷ []) ∷
-    ex (recoverBuffer 3 1 0 1 (77 ∷ 88 ∷ 3 ∷ 0 ∷ 9 ∷ [])) (1 ∷ 2 ∷ 3 ∷ 0 ∷ 9 ∷ []) ∷
-    ex (makeBuffer 2 1 (128 ∷ 128 ∷ 77 ∷ 88 ∷ [])) (128 ∷ 128 ∷ 0 ∷ 157 ∷ []) ∷
-    ex (recoverBuffer 2 1 0 2 (77 ∷ 128 ∷ 88 ∷ 157 ∷ [])) (128 ∷ 128 ∷ 0 ∷ 157 ∷ []) ∷
+    ex (makeBuffer 3 2 1 (1 ∷ 2 ∷ 3 ∷ 77 ∷ 88 ∷ [])) (1 ∷ 2 ∷ 3 ∷ 0 ∷ 9 ∷ []) ∷
+    ex (recoverBuffer 3 2 1 0 1 (77 ∷ 88 ∷ 3 ∷ 0 ∷ 9 ∷ [])) (1 ∷ 2 ∷ 3 ∷ 0 ∷ 9 ∷ []) ∷
+    ex (makeBuffer 2 2 1 (128 ∷ 128 ∷ 77 ∷ 88 ∷ [])) (128 ∷ 128 ∷ 0 ∷ 157 ∷ []) ∷
+    ex (recoverBuffer 2 2 1 0 2 (77 ∷ 128 ∷ 88 ∷ 157 ∷ [])) (128 ∷ 128 ∷ 0 ∷ 157 ∷ []) ∷
     -- K8: the number of a fetch of blocks 0 and 1, and what it gives
     ex (code (small 3) (fetch 0 2 2) k8 ∷ fetchBuffer (small 3) k8 0 2) (0 ∷ 1 ∷ 7 ∷ []) ∷
     -- K9: the numbers of fetches of block 0 and of block 2, and what the latter gives
@@ -117,7 +116,7 @@ examples =
     []
 
 pub all-hold : Holds examples
-unfolding badMeasures badLength badMember makeCode recoverCode accepted makeBuffer recoverBuffer double pow2 timesLow times raised inverse from gen block byteOf blocksOf changed eachColumn pick sum one weight parityP parityQ parity.made without restP restQ fromP fromQ fromBoth solved dataSolved recovered fixed memberOf choose bit count total any first lesser setAt blank blockP blockQ otherMissing workedBack isSome freshState row codeOf settled made remade appendOne append logged writeStripe writeTo blockAt resynced rebuilt work after afterAll bufferOf
+unfolding badMeasures badLength badMember tooMany makeCode membersCode recoverCode accepted makeBuffer recoverBuffer double pow2 timesLow times raised inverse from gen block byteOf blocksOf changed eachColumn pick sum one weight parityP parityQ weightIn parityOf parity.made without restP restQ fromP fromQ fromBoth solved dataSolved recovered fixed memberOf choose bit count total any first lesser setAt blank blockParity otherMissing workedBack isSome freshState row codeOf settled made remade appendOne append logged writeStripe writeTo blockAt resynced rebuilt work after afterAll bufferOf
 all-hold = (refl, (refl, (refl, (refl, (refl, (refl, (refl, (refl, (refl, (refl, (refl, (refl, (refl, (refl, tt))))))))))))))
 
 -- ---- the printed session
@@ -192,13 +191,13 @@ abbrev pub Runs : Geometry → List Line → Type 0
 Runs g ls = (byShelf g ls (freshState g) ≡ ls) × (byBook g ls (freshBook g) ≡ ls)
 
 pub as-printed : Runs (small 3) printed × Runs (small 3) fetched
-unfolding double pow2 timesLow times raised inverse from gen block blocksOf pick sum one weight parityP parityQ without restP restQ fromP fromQ fromBoth solved fixed memberOf choose bit count total any first lesser setAt blank blockP blockQ otherMissing workedBack isSome freshState row codeOf settled made remade appendOne append logged writeStripe writeTo blockAt resynced rebuilt work after bufferOf freshBook closed marked usedThen markStripe markTo bookWork bookAfter firstByte byShelf byBook
+unfolding double pow2 timesLow times raised inverse from gen block blocksOf pick sum one weight parityP parityQ weightIn parityOf without restP restQ fromP fromQ fromBoth solved fixed memberOf choose bit count total any first lesser setAt blank blockParity otherMissing workedBack isSome freshState row codeOf settled made remade appendOne append logged writeStripe writeTo blockAt resynced rebuilt work after bufferOf freshBook closed marked usedThen markStripe markTo bookWork bookAfter firstByte byShelf byBook
 as-printed = ((refl, refl), (refl, refl))
 
--- ---- sessions in a layout: d 2, s stripes, blocks of one byte
+-- ---- sessions in a layout and with a number of parities: d 2, s stripes, blocks of one byte
 
-abbrev pub inLayout : ℕ → ℕ → Geometry
-inLayout layout s = record { d = 2; s = s; b = 1; l = 8; h = 2; e = 4; layout = layout }
+abbrev pub shaped : ℕ → ℕ → ℕ → Geometry
+shaped layout parities s = record { d = 2; s = s; b = 1; l = 8; h = 2; e = 4; layout = layout; parities = parities }
 
 -- In either layout member 3 has P or Q of both stripes, and member 1 has data alone. A rebuild of member 3 leaves mode 1, with nothing listed and with a
 -- block listed, which it drops; each time the next write is logged, from record 0 on. A rebuild of member 1 leaves list and mode. In mode 2 a rebuild
@@ -262,15 +261,65 @@ withheldThere =
     line rebuild 14 2 1 2 0 ∷
     []
 
-pub in-layouts : Runs (inLayout 0 2) parityRebuilt × (Runs (inLayout 1 2) parityRebuilt × (Runs (inLayout 1 3) threeKinds × Runs (inLayout 1 3) withheldThere))
-unfolding double pow2 timesLow times raised inverse from gen block blocksOf pick sum one weight parityP parityQ without restP restQ fromP fromQ fromBoth solved memberAfter rotatingP rotatingQ rotatingData rotating fixed memberOf choose bit count total any first lesser setAt blank blockP blockQ otherMissing workedBack isSome freshState row codeOf settled made remade appendOne append logged writeStripe writeTo blockAt resynced rebuilt work after bufferOf freshBook closed marked usedThen markStripe markTo bookWork bookAfter firstByte byShelf byBook
-in-layouts = ((refl, refl), ((refl, refl), ((refl, refl), (refl, refl))))
+-- One parity, in either layout: the log is member 3, and member 2 has P of stripe 0. A second failure gets 11, the log's too. Block 1 is worked back
+-- from P and the original of block 0. With the log failed every disk is sound, so nothing is withheld.
+abbrev pub singleParity : List Line
+singleParity =
+    line (write 0 2 (5 ∷ 6 ∷ [])) 0 0 0 0 0 ∷
+    line start 0 1 0 0 0 ∷
+    line (write 0 1 (7 ∷ [])) 0 1 1 2 0 ∷
+    line (fail 4) 6 1 1 2 0 ∷
+    line (fail 1) 0 1 1 2 0 ∷
+    line (fail 3) 11 1 1 2 0 ∷
+    line (read 1 1 1) 16 1 1 2 0 ∷
+    line (fetch 1 1 1) 0 1 1 2 6 ∷
+    line rebuild 0 1 1 2 0 ∷
+    line (fail 3) 0 2 1 2 0 ∷
+    line (fail 0) 11 2 1 2 0 ∷
+    line (fetch 0 1 1) 0 2 1 2 7 ∷
+    line resync 0 0 0 0 0 ∷
+    line newLog 0 0 0 0 0 ∷
+    line (fail 0) 0 0 0 0 0 ∷
+    line (fetch 0 1 1) 0 0 0 0 7 ∷
+    line rebuild 0 0 0 0 0 ∷
+    line start 0 1 0 0 0 ∷
+    line (write 1 1 (9 ∷ [])) 0 1 1 2 0 ∷
+    line (fail 2) 0 1 1 2 0 ∷
+    line rebuild 0 1 0 0 0 ∷
+    []
+
+-- One parity, rotating, three stripes: P of stripe 1 is on member 1 and of stripe 2 on member 0, data index 0 on the member after it. Member 1 has P of
+-- stripe 1, whose entries a rebuild of it drops, and data index 0 of stripe 2, which it fills from the log.
+abbrev pub singleRotating : List Line
+singleRotating =
+    line (write 2 2 (5 ∷ 6 ∷ [])) 0 0 0 0 0 ∷
+    line start 0 1 0 0 0 ∷
+    line (write 2 1 (7 ∷ [])) 0 1 1 2 0 ∷
+    line (write 4 1 (8 ∷ [])) 0 1 2 4 0 ∷
+    line (fail 1) 0 1 2 4 0 ∷
+    line (read 2 2 2) 0 1 2 4 7 ∷
+    line (read 4 1 1) 16 1 2 4 0 ∷
+    line (fetch 4 1 1) 0 1 2 4 8 ∷
+    line rebuild 0 1 1 4 0 ∷
+    line (fail 2) 0 1 1 4 0 ∷
+    line (fetch 2 1 1) 0 1 1 4 7 ∷
+    []
+
+pub in-shapes : Runs (shaped 0 2 2) parityRebuilt × (Runs (shaped 1 2 2) parityRebuilt × (Runs (shaped 1 2 3) threeKinds × (Runs (shaped 1 2 3) withheldThere
+    × (Runs (shaped 0 1 2) singleParity × (Runs (shaped 1 1 2) singleParity × Runs (shaped 1 1 3) singleRotating)))))
+unfolding double pow2 timesLow times raised inverse from gen block blocksOf pick sum one weight parityP parityQ weightIn parityOf without restP restQ fromP fromQ fromBoth solved memberAfter afterP rotating fixed memberOf choose bit count total any first lesser setAt blank blockParity otherMissing workedBack isSome freshState row codeOf settled made remade appendOne append logged writeStripe writeTo blockAt resynced rebuilt work after bufferOf freshBook closed marked usedThen markStripe markTo bookWork bookAfter firstByte byShelf byBook
+in-shapes = ((refl, refl), ((refl, refl), ((refl, refl), ((refl, refl), ((refl, refl), ((refl, refl), (refl, refl)))))))
 
 -- ---- the session's shelf as bytes
 
 -- a record of this mode, next and listed, with no member failed
 abbrev pub recordWith : ℕ → ℕ → ℕ → Shelf
 recordWith m x k = record { geometry = small 3; mode = m; next = x; listed = k; failed = replicate 19 false }
+
+-- a record in mode 0 with this number of parities and these flags
+abbrev pub flagged : ℕ → List Bool → Shelf
+flagged p f =
+    record { geometry = record { d = 3; s = 2; b = 1; l = 4; h = 2; e = 4; layout = 0; parities = p }; mode = 0; next = 0; listed = 0; failed = f }
 
 -- a list with one block listed: in slot 1, place 0 has these four words; slot 0 and the other places have none
 abbrev pub oneListed : ℕ → ℕ → ℕ → ℕ → List ℕ
@@ -347,6 +396,13 @@ onBytes =
     (readNumber (recordWith 3 2 1) (oneListed 1 0 1 noneWord) ∷ readNumber (recordWith 1 5 1) (oneListed 1 0 1 noneWord)
     ∷ readNumber (recordWith 1 2 0) (oneListed 1 0 1 noneWord) ∷ readNumber (recordWith 0 2 1) (oneListed 1 0 1 noneWord) ∷ [])
     (1 ∷ 1 ∷ 1 ∷ 1 ∷ []) ∷
+    -- by the number of parities: none, three; one, with the array of one and of two; flags of a disk, of the log and of the member above it, and two;
+    -- the same with two parities
+    (let n : ℕ → ℕ → (ℕ → Bool) → ℕ = λ p len f. numberOf (flagged p (flagsFrom 0 19 f)) len 4 (replicate 72 255) (read 1 1 1) in
+    ex
+    (n 0 6 (eqb 19) ∷ n 3 12 (eqb 19) ∷ n 1 8 (eqb 19) ∷ n 1 10 (eqb 19) ∷ n 1 8 (eqb 0) ∷ n 1 8 (eqb 4) ∷ n 1 8 (eqb 5) ∷ n 1 8 (λ i. eqb i 0 || eqb i 4)
+    ∷ n 2 8 (eqb 19) ∷ n 2 10 (eqb 5) ∷ n 2 10 (eqb 6) ∷ n 2 10 (λ i. eqb i 0 || eqb i 5) ∷ n 2 10 (λ i. ltb i 3) ∷ [])
+    (1 ∷ 1 ∷ 0 ∷ 2 ∷ 0 ∷ 0 ∷ 1 ∷ 1 ∷ 2 ∷ 0 ∷ 1 ∷ 0 ∷ 1 ∷ [])) ∷
     -- number 2: array, log and list one byte too long
     ex
     (numberOf (recordWith 1 2 1) 11 4 (oneListed 1 0 1 noneWord) start ∷ numberOf (recordWith 1 2 1) 10 5 (oneListed 1 0 1 noneWord) start
@@ -382,6 +438,6 @@ onBytes =
     []
 
 pub bytes-hold : Holds onBytes
-unfolding block byteOf from gen blocksOf fixed memberOf place choose bit count total any first lesser setAt blank blockP blockQ otherMissing workedBack isSome freshState row codeOf settled made appendOne append logged writeStripe writeTo blockAt work after afterAll words bytesOf seek lookup entriesFrom entries putFront putAll encode rises has hasAll isRecord goodWords goodEntry allGood same valid said recordAt stateOf rows.badMeasures badRecord badLengths triesList inputRows numberOf flagsFrom roleOf arrayOf logOf wordOf entriesOf listOf bufferOf formatCode formatted
+unfolding block byteOf from gen blocksOf fixed memberOf place choose bit count total any first lesser setAt blank blockParity otherMissing workedBack isSome freshState row codeOf settled made appendOne append logged writeStripe writeTo blockAt work after afterAll words bytesOf seek lookup entriesFrom entries putFront putAll encode rises has hasAll isRecord goodWords goodEntry allGood same valid said recordAt stateOf rows.badMeasures badRecord badLengths triesList inputRows numberOf flagsFrom roleOf arrayOf logOf wordOf entriesOf listOf bufferOf formatCode formatted
 bytes-hold =
-    (refl, (refl, (refl, (refl, (refl, (refl, (refl, (refl, (refl, (refl, (refl, (refl, (refl, (refl, (refl, (refl, (refl, tt)))))))))))))))))
+    (refl, (refl, (refl, (refl, (refl, (refl, (refl, (refl, (refl, (refl, (refl, (refl, (refl, (refl, (refl, (refl, (refl, (refl, tt))))))))))))))))))

@@ -1,5 +1,10 @@
 -- `shelf::fetch::recover_block` meets its contract.
 -- Assumes nothing.
+use mathlib.Core.Path.{sym, subst}
+use Prim.Native.Nat.{ℕ}
+use Rattle.stripe.specs.Parity.{Recoverable}
+use Rattle.shelf.specs.Reading.{missingBy}
+use Rattle.shelf.proofs.agreement.RowParity.{other-few}
 use Rattle.shelf.proofs.calls.GivenLaws.{worked}
 use borrow.Author.Needs.{needs}
 use Rattle.shelf.proofs.fetch.recover_block.Statement.{statement}
@@ -9,7 +14,12 @@ other-missing-requires : tie.Need-other-missing-requires
 other-missing-requires c κs = (c .before .before .before .before .before .pre .0 .listing, (c .before .before .before .before .before .pre .1 .0, c .before .before .before .before .before .pre .1 .1 .0))
 
 solve-originals-requires : tie.Need-solve-originals-requires
-solve-originals-requires c κs = c .before .before .before .before .before .before .before .before .pre
+solve-originals-requires c κs =
+    let a = c .before .before .before .before .before .before .before .before in
+    let g = a .args .shelf .geometry in
+    let y = c .before .before .other-missing in
+    let few : Recoverable (g .parities) (a .args .i) (y .result) = subst (λ (k : ℕ). Recoverable (g .parities) (a .args .i) k) (sym (y .ensures)) (other-few g (missingBy (a .args .shelf) (a .args .list .now) (a .args .x)) (a .args .i)) in
+    (a .pre .0, (a .pre .1 .0, (a .pre .1 .1 .0, (few, a .pre .1 .1 .1))))
 
 same-length : tie.Need-same-length
 same-length c = search needs

@@ -7,7 +7,7 @@ use lib.Dec.{leb}
 use Rattle.shelf.specs.Counting.{count}
 use Rattle.shelf.specs.Lent.{flagAt}
 use Rattle.shelf.specs.Members.{logMember}
-use Rattle.shelf.specs.Status.{alreadyFailed, badMember, codeOf, twoFailed}
+use Rattle.shelf.specs.Status.{alreadyFailed, badMember, codeOf, limitReached}
 use Rattle.shelf.proofs.numbers.TableRows.{row-hit, row-pass}
 use borrow.Author.Needs.{needs}
 use Rattle.shelf.proofs.status.fail_rows.Statement.{statement}
@@ -42,22 +42,22 @@ count-failed-requires c κs = search needs
 returns-3 : tie.Need-returns-3
 unfolding codeOf
 returns-3 c =
-    let r = c .before .before .before .before .before .before .before .before .args .shelf in
-    let j = c .before .before .before .before .before .before .before .before .args .j in
-    let n = c .before .count-failed .ensures ∙ ap (λ (n : ℕ). count n (flagAt r)) (c .before .before .all-members .ensures) in
-    row-pass 6 (badMember (r .geometry) j) _ 11 (le-ltb (logMember (r .geometry)) j (subst (λ (n : ℕ). j ≤ n) (c .before .before .before .before .before .before .log-member .ensures) (c .before .before .before .before .before .if1 .left)))
-    (row-pass 10 (alreadyFailed (flagAt r) j) _ 11 (sym (c .before .before .before .before .has-failed .ensures) ∙ c .before .before .before .if2 .left)
-    (row-hit 11 _ _ (ap (leb 2) (sym n) ∙ le-leb 2 (c .before .count-failed .result) (c .if3 .taken))))
+    let r = c .before .before .before .before .before .before .before .before .before .args .shelf in
+    let j = c .before .before .before .before .before .before .before .before .before .args .j in
+    let n = c .before .before .count-failed .ensures ∙ ap (λ (n : ℕ). count n (flagAt r)) (c .before .before .before .all-members .ensures) in
+    row-pass 6 (badMember (r .geometry) j) _ 11 (le-ltb (logMember (r .geometry)) j (subst (λ (n : ℕ). j ≤ n) (c .before .before .before .before .before .before .before .log-member .ensures) (c .before .before .before .before .before .before .if1 .left)))
+    (row-pass 10 (alreadyFailed (flagAt r) j) _ 11 (sym (c .before .before .before .before .before .has-failed .ensures) ∙ c .before .before .before .before .if2 .left)
+    (row-hit 11 _ _ (ap (leb (r .geometry .parities)) (sym n) ∙ le-leb (r .geometry .parities) (c .before .before .count-failed .result) (c .if3 .taken))))
 
 returns-4 : tie.Need-returns-4
 unfolding codeOf
 returns-4 c =
-    let r = c .before .before .before .before .before .before .before .before .args .shelf in
-    let j = c .before .before .before .before .before .before .before .before .args .j in
-    let n = c .before .count-failed .ensures ∙ ap (λ (n : ℕ). count n (flagAt r)) (c .before .before .all-members .ensures) in
-    row-pass 6 (badMember (r .geometry) j) _ 0 (le-ltb (logMember (r .geometry)) j (subst (λ (n : ℕ). j ≤ n) (c .before .before .before .before .before .before .log-member .ensures) (c .before .before .before .before .before .if1 .left)))
-    (row-pass 10 (alreadyFailed (flagAt r) j) _ 0 (sym (c .before .before .before .before .has-failed .ensures) ∙ c .before .before .before .if2 .left)
-    (row-pass 11 (twoFailed (r .geometry) (flagAt r)) 0 0 (ap (leb 2) (sym n) ∙ lt-leb 2 (c .before .count-failed .result) (c .if3 .left)) refl))
+    let r = c .before .before .before .before .before .before .before .before .before .args .shelf in
+    let j = c .before .before .before .before .before .before .before .before .before .args .j in
+    let n = c .before .before .count-failed .ensures ∙ ap (λ (n : ℕ). count n (flagAt r)) (c .before .before .before .all-members .ensures) in
+    row-pass 6 (badMember (r .geometry) j) _ 0 (le-ltb (logMember (r .geometry)) j (subst (λ (n : ℕ). j ≤ n) (c .before .before .before .before .before .before .before .log-member .ensures) (c .before .before .before .before .before .before .if1 .left)))
+    (row-pass 10 (alreadyFailed (flagAt r) j) _ 0 (sym (c .before .before .before .before .before .has-failed .ensures) ∙ c .before .before .before .before .if2 .left)
+    (row-pass 11 (limitReached (r .geometry) (flagAt r)) 0 0 (ap (leb (r .geometry .parities)) (sym n) ∙ lt-leb (r .geometry .parities) (c .before .before .count-failed .result) (c .if3 .left)) refl))
 
 pub fail-rows-spec : {M : Type 1} → statement M
 fail-rows-spec =
