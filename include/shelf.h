@@ -18,8 +18,8 @@
  *     the log                                   d + 2             d + 1
  *     failed at a time, the log included        at most two       at most one
  *
- * So a shop with three disks, d 2 and one parity, can lose a disk or the log, and not both. What is said of P and Q
- * below is said of P alone where there is one parity.
+ * So a shop with three disks and a log, d 2 and one parity, can lose a disk or the log at a time, and not both. What is
+ * said of P and Q below is said of P alone where there is one parity.
  *
  * The layout tells which array member has which block of a stripe:
  *
@@ -139,17 +139,18 @@
  * newer record can pass every test, and a fetch then gives an older block. The flags of a record are bytes of 0 or 1: a
  * record that was read from a disk is tested for this by the driver, since a call cannot.
  *
- * A record of an earlier version has no parities, or neither layout nor parities, and is not one of this version: what
- * comes after them stands elsewhere in it. Its shelf has two parities, and the fixed layout if it names none. So a
- * driver that kept the record as bytes puts 0 in behind e, if there is no layout, and 2 in behind the layout. A record
- * whose parities are 0, as where a program does not set them, gets 1.
+ * A record of an earlier version has no parities, or neither layout nor parities, and is not one of this version: mode,
+ * next, listed and the flags stand 8 or 16 bytes earlier in it. Its shelf has two parities, and the fixed layout if it
+ * names none. So a driver that kept the record as bytes puts 0 in behind e, if there is no layout, and 2 in behind the
+ * layout. A record whose parities are 0, as where a program does not set them, gets 1.
  *
  * Layout and parities of a shelf are never changed: they are part of the geometry with which it was formatted. An array
  * of the other count with the same d has not the length that the record asks for, and gets 2. No call can tell that a
  * record has the other layout, or another d with as many members: reads then give other blocks, and parity is stored
  * over data.
  *
- * The shelf_read of an earlier version, which recovered lost blocks, is shelf_fetch.
+ * The shelf_read of an earlier version, which recovered lost blocks, is shelf_fetch, and its SHELF_TWO_FAILED is
+ * SHELF_LIMIT_REACHED.
  *
  * A shelf of an earlier version may have a list in another arrangement, with anything in its unused places. If no
  * block is listed, as in mode 0, it is carried over by filling its list with none, every byte 255, before the first
@@ -217,11 +218,11 @@
  * What a rebuild makes and drops goes by stripe: it makes P and Q of a stripe and drops its listed blocks if P or Q of
  * that stripe is on a failed member. In the fixed layout these are all stripes if P or Q has failed, and none if data
  * disks alone have. In the rotating layout a member has, of N stripes in a row, P of one, Q of another if there is a Q,
- * and data of the rest, so a rebuild of one member leaves those of the rest stale that were.
+ * and data of the rest, so after a rebuild of one member the stripes in which it has data are as stale as before.
  *
  * What the calls answer in each state, where the record, the lengths, the list and the request are in order. "some" is
- * one or two array members (with the log failed, one); with one parity it is one, and the last two rows are not there.
- * The mode is one that the state can have.
+ * one or two array members (with the log failed, one); with one parity it is one, and the last two rows of this table
+ * and of the next are not there. The mode is one that the state can have.
  *
  *     failed in   log      a stripe   mode      start   write   resync   rebuild   new_log   full_resync
  *     the array            is stale
@@ -261,12 +262,13 @@
  * with none stale, one does. shelf_rebuild fills all failed array members in one call. A sound shelf in mode 0 takes
  * shelf_start again.
  *
- * The log failed, and an array member that has a data block in a stale stripe, which is noted with two parities only:
- * there is no way back. shelf_rebuild gets 14, shelf_write 8, and so do shelf_resync and shelf_full_resync;
- * shelf_new_log gets 13, shelf_start 7. No call changes the shelf any more, save shelf_format. What can be read are all
- * blocks on sound members, and, by shelf_fetch, those of the failed one in stripes that are not stale. So when the log
- * fails while a stripe is stale, resync at once; and when an array member fails while a stripe is stale, rebuild at
- * once.
+ * The log failed, and an array member that has a data block in a stale stripe: there is no way back. With two parities
+ * shelf_rebuild gets 14, shelf_write 8, and so do shelf_resync and shelf_full_resync; shelf_new_log gets 13,
+ * shelf_start 7. No call changes the shelf any more, save shelf_format. What can be read are all blocks on sound
+ * members, and, by shelf_fetch, those of the failed one in stripes that are not stale. With one parity the second of
+ * these failures cannot be noted, so no call answers 14; but the member's blocks in stale stripes are lost all the
+ * same, and a call that goes on takes its bytes as they are. So when the log fails while a stripe is stale, resync at
+ * once; and when an array member fails while a stripe is stale, rebuild at once.
  *
  * SHELF_WITHHELD (14) and SHELF_BLOCK_FAILED (16) refuse a call as a whole and name no block. Where shelf_read answers
  * 16, shelf_fetch with the same arguments answers 0 or 14. To read the blocks that are not withheld, fetch one by one.
@@ -276,6 +278,8 @@
  * the next call: shelf_new_log, if the log is among those noted and no block is listed; shelf_rebuild, if the log is
  * the one that is not noted, and no stripe is stale or those noted have P and Q in each stale stripe; with two parities
  * and the fixed layout shelf_rebuild too, if the log and one of P and Q are noted, and the third is the other of these.
+ * With one parity, if the log is noted and the other has P in each stale stripe, shelf_resync until the mode is 0 does
+ * not look at it either, and shelf_new_log is the call after that.
  *
  * The list is lost (SHELF_BAD_LIST, 3): every call but shelf_format and shelf_full_resync answers 3, shelf_fail too,
  * so a disk that fails now cannot be reported. shelf_full_resync does not look at the list. It trusts every data
@@ -355,7 +359,7 @@ extern "C" {
 #define SHELF_NOT_FAILED 12     /* no array member has failed (shelf_rebuild); the log is sound (shelf_new_log) */
 #define SHELF_LISTED 13         /* blocks are listed */
 #define SHELF_WITHHELD 14       /* the log has failed, and a block that is asked for (shelf_fetch), or any data block
-                                 * (shelf_rebuild), is on a failed member in a stale stripe */
+                                 * (shelf_rebuild), is on a failed member in a stale stripe; never with one parity */
 #define SHELF_BLOCK_FAILED 16   /* a block that is asked for (shelf_read) is on a failed member */
 #define SHELF_OK 0
 
@@ -509,10 +513,10 @@ struct shelf_resynced shelf_resync(struct shelf_record shelf, uint8_t *array, si
 /* Fills all failed array members.
  *
  * Answers 0, 1, 2, 3, 12 or 14. With 0, every data block on a failed member is what shelf_fetch would give, and the
- * record handed back has no flag of an array member set; the log's flag is as it was. In each stripe whose P or Q was
- * on a failed member both are made, and its listed blocks are dropped; listed counts those left. If no block is left
- * listed, next is 0, and mode 2 becomes 0; else next and the mode remain. Mode 1 remains in either case. Where there
- * was no such stripe, the list remains too.
+ * record handed back has no flag of an array member set; the log's flag is as it was. In each stripe that had a parity
+ * on a failed member all parity is made, and its listed blocks are dropped; listed counts those left. If no block is
+ * left listed, next is 0, and mode 2 becomes 0; else next and the mode remain. Mode 1 remains in either case. Where
+ * there was no such stripe, the list remains too.
  */
 struct shelf_answer shelf_rebuild(struct shelf_record shelf, uint8_t *array, size_t array_len, const uint8_t *log,
                                   size_t log_len, uint8_t *list, size_t list_len);

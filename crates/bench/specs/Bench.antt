@@ -16,7 +16,7 @@ use Rattle.shelf.specs.Lent.{Lent, badMeasures, arrayLength, logLength, listLen
 use Rattle.shelf.specs.declared.record.Geometry.{Geometry}
 use Rattle.bench.specs.declared.calls.Outcome.{Outcome}
 
--- the geometry that measures say, in the fixed layout, with two parities; zeros, which are out of range, where they can't be read
+-- the geometry that measures say, in the fixed layout, with two parities; where they can't be read the six are zeros, which are out of range
 unfoldable pub geometryOf : Measures → Geometry
 geometryOf (Six d s b l h e) = record { d = d; s = s; b = b; l = l; h = h; e = e; layout = 0; parities = 2 }
 geometryOf Unreadable = record { d = 0; s = 0; b = 0; l = 0; h = 0; e = 0; layout = 0; parities = 2 }

@@ -85,7 +85,8 @@ fn open(
     }
 }
 
-// The geometry that a line of measures says, in the fixed layout, with two parities; zeros, which no shelf has, where it can't be read.
+// The geometry that a line of measures says, in the fixed layout, with two parities; where it can't be read the six are zeros, which no
+// shelf has.
 fn geometry_of(line: &[u8]) -> Geometry
     ensures { λ g. ⌜ g ≡ geometryOf (measuresLine (now (line .entry))) ⌝ }
 {

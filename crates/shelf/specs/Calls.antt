@@ -216,9 +216,9 @@ parityFailed g f x = any (g .parities) (λ p. f (memberAt g x (parityRole g p)))
 abbrev pub arrayCleared : Geometry → (ℕ → Bool) → ℕ → Bool
 arrayCleared g f i = choose (ltb i (arrayMembers g)) false (f i)
 
--- Every data block on a failed member is filled with what fetch would give; one on a sound member is read as it is. In the stripes that had a
--- parity on a failed member, and only there, all parities are made afresh and the listed blocks are dropped. All array flags clear, and the rest is settled: mode 2
--- becomes 0 where the list ends empty, and mode 1 remains mode 1, with or without listed blocks before and after.
+-- Every data block on a failed member is filled with what fetch would give; one on a sound member is read as it is. In the stripes that had a parity
+-- on a failed member, and only there, all parities are made afresh and the listed blocks are dropped. All array flags clear, and the rest is
+-- settled: mode 2 becomes 0 where the list ends empty, and mode 1 remains mode 1, with or without listed blocks before and after.
 unfoldable pub rebuilt : Geometry → State → State
 rebuilt g s = settled g (withFlags (afresh g s (parityFailed g (s .failed)) (blockAt g s)) (arrayCleared g (s .failed)))
 

@@ -1,5 +1,5 @@
-// A record shelf: an array with two parities, as in RAID-6, or one, whose parity is put off through a log and a list. The caller lends the record, the array, the log and
-// the list to each call; nothing is kept between calls.
+// A record shelf: an array with two parities (RAID-6) or one, the making of which can be put off through a log and a list. The caller
+// lends the record, the array, the log and the list to each call; nothing is kept between calls.
 //
 // Here stand the calls for C. Below them: `record` has the shelf record and its methods, `status` decides the number by which a call is
 // refused, before anything is stored. The list of the blocks whose parity is put off is bytes: `words` reads and writes them as 32-bit
@@ -257,8 +257,8 @@ pub extern "C" fn shelf_resync(
 }
 
 // Fills every data block on a failed member with what a fetch gives and clears the array's flags. In the stripes with a parity on a
-// failed member all parities are made afresh and the listed blocks are dropped; if no block is left listed, all log records are free and mode 2
-// ends. Mode 1 remains. Answers 0; or the first of 1, 2, 3, 12, 14 that applies, and then stores nothing.
+// failed member all parities are made afresh and the listed blocks are dropped; if no block is left listed, all log records are free
+// and mode 2 ends. Mode 1 remains. Answers 0; or the first of 1, 2, 3, 12, 14 that applies, and then stores nothing.
 #[no_mangle]
 pub extern "C" fn shelf_rebuild(
     shelf: record::Shelf,

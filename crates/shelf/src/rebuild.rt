@@ -1,5 +1,5 @@
 // A rebuild: every data block on a failed member is filled with what a fetch gives, stripe after stripe, and parity is made afresh in the
-// stripes in which one of them was on a failed member.
+// stripes that had a parity on a failed member.
 use super::alter;
 use super::fetch;
 use super::list;

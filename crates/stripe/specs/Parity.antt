@@ -21,7 +21,7 @@ unfoldable pub sum : (ℕ → ℕ) → (ℕ → ℕ) → ℕ → ℕ
 sum w D zero = 0
 sum w D (suc n) = bitXor (sum w D n) (times (w n) (D n))
 
--- P's weightIn are all 1, and Q's weight of data i is 2 to the power i
+-- P's weights are all 1, and Q's weight of data i is 2 to the power i
 unfoldable pub one : ℕ → ℕ
 one i = 1
 

@@ -2,11 +2,11 @@
 // and missing blocks recovered from the others.
 //
 // The two calls for C, `stripe_make_parity` and `stripe_recover`, take one stripe in a buffer of
-// its own, in the order data, P and, of two parities, Q, and refuse what they cannot work on. Below them, for arrays
-// that are kept by member: `parity` makes parity where the blocks stand, `solve` recovers a
-// missing block from the others, each in the array or in a log, `blocks` copies blocks by number and
-// `places` knows where a block stands. The contracts cite `specs/`: `Parity.antt` has the
-// mathematics, `Calls.antt` what the two calls answer and leave.
+// its own, in the order data, P and, of two parities, Q, and refuse what they cannot work on. Below
+// them, for arrays that are kept by member: `parity` makes parity where the blocks stand, `solve`
+// recovers a missing block from the others, each in the array or in a log, `blocks` copies blocks
+// by number and `places` knows where a block stands. The contracts cite `specs/`: `Parity.antt` has
+// the mathematics, `Calls.antt` what the two calls answer and leave.
 pub mod blocks;
 pub mod parity;
 pub mod places;

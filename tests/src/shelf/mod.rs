@@ -14,7 +14,6 @@ pub mod marked;
 pub mod model;
 pub mod order;
 mod pair;
-mod parity;
 pub mod printed;
 pub mod random;
 mod reads;

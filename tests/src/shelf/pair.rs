@@ -4,9 +4,9 @@ use super::book::Book;
 use super::calls::{Buffer, Call, Measures, Record, Shelf};
 use super::layout::List;
 use super::model::lengths;
-use super::parity::made;
 use super::roles;
 use super::stand::Stand;
+use crate::model::made;
 
 /// A shelf that a sequence of calls from a fresh one reached, and the book of that sequence.
 #[derive(Clone)]
@@ -103,7 +103,7 @@ impl Pair {
         let Measures { d, s, b, .. } = m;
         for stripe in 0..s {
             let data = (stripe * d..(stripe + 1) * d).flat_map(|address| self.book.block(address));
-            let row = made(m, &data.copied().chain(vec![0; m.parities * b]).collect::<Vec<u8>>());
+            let row = made(d, m.parities, b, &data.copied().chain(vec![0; m.parities * b]).collect::<Vec<u8>>());
             let count = if self.book.awaits(stripe) { d } else { m.log() };
             for (block, member) in row.chunks(b).zip(roles::members(m, stripe)).take(count) {
                 if self.shelf.record.failed[member] == 0 && block != self.stored(member, stripe) {

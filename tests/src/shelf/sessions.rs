@@ -4,8 +4,8 @@
 use super::calls::{Buffer, Call, Measures, Record, Shelf};
 use super::due::Due;
 use super::model::NONE;
-use super::parity::made_all;
 use super::stand::Stand;
+use crate::model::made_all;
 use crate::Outcome;
 
 /// The measures of the customer's session.
@@ -72,7 +72,7 @@ fn list(heads: [u32; 2], entry: [u32; 4]) -> Vec<u8> {
 /// A shelf of the session's measures.
 fn shelf(mode: usize, next: usize, listed: usize, data: [u8; 6], log: [u8; 4], list: Vec<u8>) -> Shelf {
     let record = Record { measures: MEASURES, mode, next, listed, failed: [0; 19] };
-    let array = made_all(MEASURES, &[&data[..], &[0; 4]].concat());
+    let array = made_all(3, 2, 2, 1, &[&data[..], &[0; 4]].concat());
     let [array, log, list, data] = [array, log.to_vec(), list, Vec::new()].map(Buffer::of);
     Shelf { record, array, log, list, data }
 }

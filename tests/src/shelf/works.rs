@@ -8,8 +8,8 @@ use super::due::Due;
 use super::events::{Event, Events};
 use super::layout::{Entries, List};
 use super::model::{findings, NONE};
-use super::parity::{made, recovered};
 use super::roles;
+use crate::model::{made, recovered};
 
 /// What is due of a call that is answered with this number, and the ways in which its work is done, a plain read is
 /// refused, or blocks are withheld.
@@ -190,7 +190,7 @@ impl Sight<'_> {
         events.add(Event::FetchByQ, y == d);
         events.add(Event::FetchByP, y == x || y == d + 1);
         events.add(Event::FetchBesideOri, (0..d).any(|index| self.entries.contains_key(&(stripe * d + index))));
-        recovered(m, x, y, &row)[x * b..][..b].to_vec()
+        recovered(d, m.parities, b, x, y, &row)[x * b..][..b].to_vec()
     }
 }
 
@@ -259,7 +259,7 @@ impl Work {
         for &member in &members {
             row.extend_from_slice(&self.array[place(self.m, member, stripe)]);
         }
-        let row = made(self.m, &row);
+        let row = made(self.m.d, self.m.parities, self.m.b, &row);
         for (&member, block) in members.iter().zip(row.chunks(self.m.b)).skip(self.m.d) {
             self.array[place(self.m, member, stripe)].copy_from_slice(block);
         }

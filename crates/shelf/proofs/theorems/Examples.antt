@@ -1,7 +1,7 @@
 -- The marked examples K1 to K13 and the printed session of the bench program, with a plain read and with a fetch, proved from the definitions by
 -- computation: one statement ranges over the list of the examples, and one over the lists of the session's lines. Then a session in both layouts and
--- two in the rotating one, by shelf and by book, and the session's shelf as bytes: what format leaves, the layout of array, log and list, and the
--- numbers 1 to 3.
+-- two in the rotating one, with one parity one in both and one in the rotating one, by shelf and by book; and the session's shelf as bytes: what
+-- format leaves, the layout of array, log and list, and the numbers 1 to 3.
 -- Assumes nothing.
 use mathlib.Core.Bool.{Bool, false, _||_}
 use mathlib.Core.List.{List, [], _∷_}
@@ -199,9 +199,9 @@ as-printed = ((refl, refl), (refl, refl))
 abbrev pub shaped : ℕ → ℕ → ℕ → Geometry
 shaped layout parities s = record { d = 2; s = s; b = 1; l = 8; h = 2; e = 4; layout = layout; parities = parities }
 
--- In either layout member 3 has P or Q of both stripes, and member 1 has data alone. A rebuild of member 3 leaves mode 1, with nothing listed and with a
--- block listed, which it drops; each time the next write is logged, from record 0 on. A rebuild of member 1 leaves list and mode. In mode 2 a rebuild
--- of member 3 leaves mode 0, since the list ends empty.
+-- Two parities: in either layout member 3 has P or Q of both stripes, and member 1 has data alone. A rebuild of member 3 leaves mode 1, with nothing
+-- listed and with a block listed, which it drops; each time the next write is logged, from record 0 on. A rebuild of member 1 leaves list and mode.
+-- In mode 2 a rebuild of member 3 leaves mode 0, since the list ends empty.
 abbrev pub parityRebuilt : List Line
 parityRebuilt =
     line start 0 1 0 0 0 ∷
