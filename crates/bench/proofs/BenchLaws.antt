@@ -20,7 +20,7 @@ use Rattle.shelf.specs.Lent.{Lent, flagAt, listedBy, badMeasures, arrayLength, 
 use Rattle.shelf.specs.declared.record.Geometry.{Geometry}
 use Rattle.shelf.specs.declared.record.Shelf.{Shelf}
 use Rattle.shelf.proofs.general.TestLaws.{or-true}
-use Rattle.shelf.proofs.numbers.TableRows.{row-hit, row-above}
+use Rattle.shelf.proofs.numbers.TableRows.{row-hit, row-other}
 use Rattle.shelf.proofs.numbers.InputLaws.{in-range}
 use Rattle.shelf.proofs.lent.Holding.{answered-geometry}
 use Rattle.bench.specs.Bench.{fits, dataLength, readCall, firstRead, Performed}
@@ -121,7 +121,8 @@ answered-alike h c c′ code h′ t t′ e e′ x =
     → numberOf r (length (h .array)) (length (h .log)) (h .list) q ≡ inputRows r (length (h .array)) (length (h .log)) (h .list) true 4 =
     λ q u f. ap₂ (λ (b : Bool) (k : ℕ). inputRows r (length (h .array)) (length (h .log)) (h .list) b k) u f in
     let some : code ≡ 0 → ⊥ = λ z.
-    row-above 1 0 _ _ (omega arith) (row-above 1 0 _ _ (omega arith) (row-above 2 0 _ _ (omega arith) (row-above 3 0 _ _ (omega arith) (λ (k : _≡_ {A = ℕ} 4 0). omega arith))))
+    row-other 1 0 _ _ (λ _ k. omega arith) (λ _. row-other 1 0 _ _ (λ _ k. omega arith) (λ _. row-other 2 0 _ _ (λ _ k. omega arith)
+    (λ _. row-other 3 0 _ _ (λ _ k. omega arith) (λ _ (k : _≡_ {A = ℕ} 4 0). omega arith))))
     (sym (n c t e) ∙ sym (x .number) ∙ z) in
     record {
       number = x .number ∙ n c t e ∙ sym (n c′ t′ e′);

@@ -1,10 +1,10 @@
 -- With one parity 14 never occurs, whatever is lent and whatever is called: a record that passes row 1 has then at most one failed member, so the log
 -- and a data disk have never both failed. Format and the stripe calls have no row 14.
 -- Assumes nothing.
-use mathlib.Core.Bool.{Bool, true, false, _&&_}
+use mathlib.Core.Bool.{Bool, false, _&&_}
 use mathlib.Core.List.{List}
 use mathlib.Core.Logic.{_≢_}
-use mathlib.Core.Path.{_≡_, refl, sym, ap, _∙_, subst}
+use mathlib.Core.Path.{_≡_, sym, ap, _∙_}
 use Prim.Native.Nat.{ℕ, _+_, _≤_, _<_}
 use native.Mathlib.Nat.{mod-lt}
 use native.Mathlib.Omega.{arith}
@@ -13,23 +13,14 @@ use Rattle.stripe.proofs.Laws.{one-to-one}
 use Rattle.shelf.specs.Counting.{count}
 use Rattle.shelf.specs.Members.{allMembers, logMember, memberAt}
 use Rattle.shelf.specs.State.{stale}
-use Rattle.shelf.specs.Status.{Call, start, fail, write, read, fetch, resync, rebuild, newLog, fullResync, logFailed, withheld, fetchWithheld, dataWithheld, row, codeOf}
+use Rattle.shelf.specs.Status.{Call, logFailed, withheld, fetchWithheld, dataWithheld, codeOf}
 use Rattle.shelf.specs.Lent.{Lent, Answered, flagAt, badMeasures, badRecord, inputRows, numberOf, listedBy}
 use Rattle.shelf.specs.declared.record.Geometry.{Geometry}
 use Rattle.shelf.specs.declared.record.Shelf.{Shelf}
 use Rattle.shelf.proofs.general.CountLaws.{none-any, no-two}
-use Rattle.shelf.proofs.general.TestLaws.{cases, and-false}
+use Rattle.shelf.proofs.general.TestLaws.{cases, clash, and-false}
+use Rattle.shelf.proofs.numbers.TableRows.{row-other, never-code}
 use Rattle.shelf.proofs.numbers.InputLaws.{in-range, few-flags}
-
--- a number that neither a row nor, where the row is passed over, the rest gives is not answered
-row-never : (n m : ℕ) (t : Bool) (rest : ℕ) → n ≢ m → (t ≡ false → rest ≢ m) → row n t rest ≢ m
-unfolding row
-row-never n m true rest u v = u
-row-never n m false rest u v = v refl
-
-row-off : (n m : ℕ) (t : Bool) (rest : ℕ) → t ≡ false → rest ≢ m → row n t rest ≢ m
-unfolding row
-row-off n m t rest e v = subst (λ (u : Bool). row n u rest ≢ m) (sym e) v
 
 -- ---- one failed member at most: no block is withheld
 
@@ -50,25 +41,16 @@ module _ (g : Geometry) (f : ℕ → Bool) (m : ℕ → ℕ → Bool) (pos : 0 <
   none-rebuilt = none-any (g .s) _ (λ x _. none-any (g .d) _ (λ i h. none-withheld x i h))
 
   never : (mode : ℕ) (c : Call) → codeOf g f mode m c ≢ 14
-  unfolding codeOf
-  never mode start = row-never 7 14 _ _ (λ e. omega arith) (λ _. row-never 8 14 _ _ (λ e. omega arith) (λ _. row-never 9 14 _ 0 (λ e. omega arith) (λ _ e. omega arith)))
-  never mode (fail j) = row-never 6 14 _ _ (λ e. omega arith) (λ _. row-never 10 14 _ _ (λ e. omega arith) (λ _. row-never 11 14 _ 0 (λ e. omega arith) (λ _ e. omega arith)))
-  never mode (write a n v) = row-never 4 14 _ _ (λ e. omega arith) (λ _. row-never 5 14 _ _ (λ e. omega arith) (λ _. row-never 8 14 _ 0 (λ e. omega arith) (λ _ e. omega arith)))
-  never mode (read a n len) = row-never 4 14 _ _ (λ e. omega arith) (λ _. row-never 5 14 _ _ (λ e. omega arith) (λ _. row-never 16 14 _ 0 (λ e. omega arith) (λ _ e. omega arith)))
-  never mode (fetch a n len) = row-never 4 14 _ _ (λ e. omega arith) (λ _. row-never 5 14 _ _ (λ e. omega arith) (λ _. row-off 14 14 (fetchWithheld g f m a n) 0 (none-fetched a n) (λ e. omega arith)))
-  never mode resync = row-never 7 14 _ _ (λ e. omega arith) (λ _. row-never 8 14 _ 0 (λ e. omega arith) (λ _ e. omega arith))
-  never mode rebuild = row-never 12 14 _ _ (λ e. omega arith) (λ _. row-off 14 14 (dataWithheld g f m) 0 none-rebuilt (λ e. omega arith))
-  never mode newLog = row-never 12 14 _ _ (λ e. omega arith) (λ _. row-never 13 14 _ 0 (λ e. omega arith) (λ _ e. omega arith))
-  never mode fullResync = row-never 8 14 _ 0 (λ e. omega arith) (λ _ e. omega arith)
+  never mode = never-code g f mode m 14 (λ e. omega arith) (λ n _ u. u) (λ a n t. clash t (none-fetched a n)) (λ t. clash t none-rebuilt)
 
 -- ---- of any call
 
 pub never-14 : (r : Shelf) (na nl : ℕ) (l : List ℕ) (c : Call) → r .geometry .parities ≡ 1 → numberOf r na nl l c ≢ 14
 unfolding numberOf inputRows
 never-14 r na nl l c one =
-    row-never 1 14 (badMeasures (r .geometry)) _ (λ e. omega arith)
-    (λ fine. row-never 1 14 (badRecord r) _ (λ e. omega arith)
-    (λ passed. row-never 2 14 _ _ (λ e. omega arith) (λ _. row-never 3 14 _ _ (λ e. omega arith)
+    row-other 1 14 (badMeasures (r .geometry)) _ (λ _ e. omega arith)
+    (λ fine. row-other 1 14 (badRecord r) _ (λ _ e. omega arith)
+    (λ passed. row-other 2 14 _ _ (λ _ e. omega arith) (λ _. row-other 3 14 _ _ (λ _ e. omega arith)
     (λ _. never (r .geometry) (flagAt r) (listedBy (r .geometry) l) (pos fine) one (few fine passed) (r .mode) c))))
   where
     pos : badMeasures (r .geometry) ≡ false → 0 < r .geometry .d
