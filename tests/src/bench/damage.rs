@@ -3,7 +3,7 @@
 use super::lines::{call_line, measures};
 use super::sound::{digits, joined, Fields};
 use crate::random::Random;
-use crate::shelf::lists::pick;
+use crate::shelf::harness::lists::pick;
 
 /// What becomes of a line: it can't be read, it is read as before, or it can be read.
 #[derive(Clone, Copy, Debug, PartialEq)]

@@ -2,9 +2,9 @@
 
 use super::model::ROOM;
 use crate::random::Random;
-use crate::shelf::calls::Measures;
-use crate::shelf::lists::pick;
-use crate::shelf::model::RANGES;
+use crate::shelf::harness::calls::Measures;
+use crate::shelf::harness::lists::pick;
+use crate::shelf::model::numbers::RANGES;
 
 /// Measures that are in their ranges, but whose sizes 32 bits take for small or negative ones.
 const WIDE: [[usize; 6]; 4] = [

@@ -5,8 +5,8 @@ use super::edges;
 use super::model::Bench;
 use super::sound::{calls, joined, losses, measures, of_measures, roomy, Fields};
 use crate::random::Random;
-use crate::shelf::calls::Measures;
-use crate::shelf::lists::pick;
+use crate::shelf::harness::calls::Measures;
+use crate::shelf::harness::lists::pick;
 
 /// The lines of names as the customer has them.
 pub const NAMES: [&str; 2] = ["data stripes block log slots places", "call a b c"];

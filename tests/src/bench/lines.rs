@@ -2,7 +2,7 @@
 
 use std::str;
 
-use crate::shelf::calls::{Call, Measures};
+use crate::shelf::harness::calls::{Call, Measures};
 
 /// The lines of an input. A line ends at a newline or at the end of the input; none follows a final newline.
 pub fn lines(input: &[u8]) -> Vec<&[u8]> {

@@ -13,9 +13,9 @@ mod stored;
 use std::path::Path;
 
 use crate::random::Random;
-use crate::shelf::events::Seen;
-use crate::shelf::lists::pick;
-use crate::shelf::printed::INPUT;
+use crate::shelf::cases::printed::INPUT;
+use crate::shelf::harness::lists::pick;
+use crate::shelf::model::events::Seen;
 use crate::Outcome;
 use inputs::{Maker, KINDS};
 use program::Pieces;

@@ -1,11 +1,11 @@
 //! What the bench program must write: a shelf as the model of the calls has it, driven by the lines of an input.
 
 use super::lines::{call_line, lines, measures, CallLine};
-use crate::shelf::calls::{Buffer, Call, Measures, Record, Shelf};
-use crate::shelf::due::Due;
-use crate::shelf::events::Seen;
-use crate::shelf::model::{findings, lengths};
-use crate::shelf::works::outcome;
+use crate::shelf::harness::calls::{Buffer, Call, Measures, Record, Shelf};
+use crate::shelf::model::due::Due;
+use crate::shelf::model::events::Seen;
+use crate::shelf::model::numbers::{findings, lengths};
+use crate::shelf::model::works::outcome;
 
 /// The line of column names, and the line for measures that are bad or can't be read.
 pub const COLUMNS: &str = "call code mode listed next first";

@@ -3,10 +3,11 @@
 use super::lines::call_line;
 use super::model::Bench;
 use crate::random::Random;
-use crate::shelf::calls::{fetch, read, write, Call, Measures};
-use crate::shelf::events::Seen;
-use crate::shelf::lists::pick;
-use crate::shelf::{requests, sequences};
+use crate::shelf::cases::sequences;
+use crate::shelf::harness::calls::{fetch, read, write, Call, Measures};
+use crate::shelf::harness::lists::pick;
+use crate::shelf::harness::requests;
+use crate::shelf::model::events::Seen;
 
 /// The fields of a line, which are joined by single blanks.
 pub type Fields = Vec<Vec<u8>>;

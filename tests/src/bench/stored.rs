@@ -5,7 +5,7 @@
 
 use super::inputs::NAMES;
 use super::model::COLUMNS;
-use crate::shelf::printed::{INPUT, OUTPUT};
+use crate::shelf::cases::printed::{INPUT, OUTPUT};
 
 /// A session: what it shows, the measures, and each call line with the line that is due for it.
 type Session = (&'static str, &'static str, &'static [(&'static str, &'static str)]);

@@ -1,34 +1,5 @@
-//! The tests of the shelf.
+//! The tests of the shelf: the harness, the model beside its book, and the groups of cases.
 
-mod book;
-pub mod calls;
-mod clauses;
-mod conditions;
-mod damage;
-pub mod due;
-pub mod events;
-mod layout;
-pub mod limits;
-pub mod lists;
-pub mod marked;
+pub mod cases;
+pub mod harness;
 pub mod model;
-pub mod order;
-mod pair;
-pub mod printed;
-pub mod random;
-mod reads;
-pub mod rebuilds;
-mod records;
-pub mod requests;
-mod roles;
-pub mod rotation;
-pub mod rows;
-mod script;
-pub mod sequences;
-pub mod sessions;
-pub mod single;
-mod stand;
-mod tally;
-pub mod tiny;
-pub mod walks;
-pub mod works;
