@@ -1,16 +1,20 @@
-/* The benchmark: this library's calls against ISA-L, plain C rows and memcpy, those that change a list
-   against one that only tests it, that one against a test in plain C, those of the rotating layout against
-   those of the fixed one, and those with one parity against those with two. It compares all results, then
-   times all variants in one interleaved run and prints in Markdown how fast the library is beside each of
-   them. `benchmarks/run` builds and runs it. */
+/* The measuring program of the benchmark: this library's calls against ISA-L, plain C rows and memcpy, those that
+   change a list against one that only tests it, that one against a test in plain C, those of the rotating layout
+   against those of the fixed one, and those with one parity against those with two. It compares all results, then
+   times all variants in one interleaved pass and writes the times to a file:
+     bench PASS PASSES FILE
+   The first two arguments are for what it says on standard error. */
 #define _POSIX_C_SOURCE 200809L
 
 #include "bench.h"
 
+#include <stdio.h>
+#include <stdlib.h>
 #include <time.h>
 
-#define SLICE_NS 1e6        /* the length of a slice */
-#define MOST_SECONDS 150.0  /* no round begins later than this */
+#define SLICE_NS 1e6      /* the length of a slice */
+#define MOST_SECONDS 50.0 /* no round begins later than this */
+#define TELL_SECONDS 10.0 /* how often it says how long it has been at work */
 
 /* The next number of a fixed sequence (splitmix64). */
 uint64_t next_random(void)
@@ -30,15 +34,11 @@ static double now(void)
     return (double)t.tv_sec * 1e9 + (double)t.tv_nsec;
 }
 
-/* ISA-L's AVX code may return with the upper halves of the vector registers in use, and all SSE
-   code after it, the archives' and the C rows', would then run slower than it does by itself. So
-   vzeroupper follows each batch of ISA-L's calls, within the time that counts as ISA-L's. */
-static void release_upper_halves(void)
+/* Ends the program with an error. */
+void fail(const struct job *job, const char *who, const char *what)
 {
-#ifdef __x86_64__
-    if (__builtin_cpu_supports("avx"))
-        __asm__ volatile("vzeroupper" ::: "memory");
-#endif
+    fprintf(stderr, "benchmark: %s, d %u, B %u: %s: %s\n", work_names[job->work], job->d, job->b, who, what);
+    exit(1);
 }
 
 /* A batch of calls on a job whose list each call finds as it was before; to set it back does not count. */
@@ -55,27 +55,25 @@ static double run_listed(call_of_job *call, const struct job *job, uint64_t call
 }
 
 /* A batch of calls of one variant. Answers what they took, in nanoseconds. */
-double run_batch(const struct variant *v, const struct job *job, uint64_t calls)
+double run_batch(enum variant v, const struct job *job, uint64_t calls)
 {
-    call_of_job *call = v->call[job->work];
+    call_of_job *call = ways[v].call[job->work];
     if (job->list_before != NULL)
         return run_listed(call, job, calls);
     double from = now();
     for (uint64_t n = 0; n < calls; n++)
         call(job);
-    if (v->wide)
-        release_upper_halves();
     return now() - from;
 }
 
 /* The time of a call in a batch, in nanoseconds. */
-static double time_batch(const struct variant *v, const struct job *job, uint64_t calls)
+static double time_batch(enum variant v, const struct job *job, uint64_t calls)
 {
     return run_batch(v, job, calls) / (double)calls;
 }
 
 /* How many calls of a variant fill a slice; at least one. */
-static uint64_t calls_in_slice(const struct variant *v, const struct job *job)
+static uint64_t calls_in_slice(enum variant v, const struct job *job)
 {
     for (uint64_t calls = 1;; calls *= 2) {
         double least = time_batch(v, job, calls);
@@ -100,22 +98,22 @@ void turn_to(const struct job *job)
 /* Finds the slices of a line's variants. */
 static void plan(struct line *line)
 {
-    for (unsigned v = 0; v < variant_count; v++) {
-        if (!takes_part(line, &variants[v]))
+    for (enum variant v = 0; v < VARIANTS; v++) {
+        if (!takes_part(line, v))
             continue;
-        struct job job = job_of(line, &variants[v]);
+        struct job job = job_of(line, v);
         turn_to(&job);
-        line->calls[v] = calls_in_slice(&variants[v], &job);
+        line->calls[v] = calls_in_slice(v, &job);
     }
 }
 
 /* Puts the variants in a random order. */
-static void shuffle(unsigned order[MOST_VARIANTS])
+static void shuffle(enum variant order[VARIANTS])
 {
-    for (unsigned k = 0; k < variant_count; k++) {
+    for (unsigned k = 0; k < VARIANTS; k++) {
         unsigned other = (unsigned)(next_random() % (k + 1));
         order[k] = order[other];
-        order[other] = k;
+        order[other] = (enum variant)k;
     }
 }
 
@@ -124,29 +122,33 @@ static void shuffle(unsigned order[MOST_VARIANTS])
    that a slice would otherwise begin in the state of the variant before it. */
 static void time_line(struct line *line, unsigned round)
 {
-    unsigned order[MOST_VARIANTS] = {0};
+    enum variant order[VARIANTS] = {0};
     shuffle(order);
-    for (unsigned k = 0; k < variant_count; k++) {
-        unsigned v = order[k];
-        if (!takes_part(line, &variants[v]))
+    for (unsigned k = 0; k < VARIANTS; k++) {
+        enum variant v = order[k];
+        if (!takes_part(line, v))
             continue;
-        struct job job = job_of(line, &variants[v]);
+        struct job job = job_of(line, v);
         turn_to(&job);
-        run_batch(&variants[v], &job, line->calls[v]);
-        line->times[v][round] = time_batch(&variants[v], &job, line->calls[v]);
+        run_batch(v, &job, line->calls[v]);
+        line->times[v][round] = time_batch(v, &job, line->calls[v]);
     }
 }
 
 /* Times all lines in every round, so that a slow state of the machine that lasts for seconds falls
-   on a few rounds of every line and not on all rounds of a few. Answers how many rounds it made. */
-static unsigned time_rounds(void)
+   on a few rounds of every line and not on all rounds of a few. Says now and then how long the pass has
+   been at work since its start. Answers how many rounds it made. */
+static unsigned time_rounds(double start, const char *pass, const char *passes)
 {
-    double from = now();
+    double from = now(), told = from;
     unsigned round = 0;
-    while (round < MOST_ROUNDS && now() - from < MOST_SECONDS * 1e9) {
+    for (; round < MOST_ROUNDS && now() - from < MOST_SECONDS * 1e9; round++) {
         for (unsigned n = 0; n < LINES; n++)
             time_line(&lines[n], round);
-        round++;
+        if (now() - told > TELL_SECONDS * 1e9) {
+            told = now();
+            fprintf(stderr, "benchmark: pass %s of %s, %.0f s\n", pass, passes, (told - start) / 1e9);
+        }
     }
     return round;
 }
@@ -155,19 +157,25 @@ static unsigned time_rounds(void)
 static void check_again(const struct line *line)
 {
     compare(&line->job, "the last timed call");
-    for (unsigned v = 0; v < variant_count; v++) {
-        if (!takes_part(line, &variants[v]))
+    for (enum variant v = 0; v < VARIANTS; v++) {
+        if (!takes_part(line, v))
             continue;
-        struct job job = job_of(line, &variants[v]);
+        struct job job = job_of(line, v);
         turn_to(&job);
-        run_batch(&variants[v], &job, line->calls[v]);
-        compare(&job, variants[v].name);
+        run_batch(v, &job, line->calls[v]);
+        compare(&job, variant_names[v]);
     }
 }
 
 /* Checks everything, times everything, checks that calls as they were timed leave the right bytes. */
-int main(void)
+int main(int argc, char **argv)
 {
+    double start = now();
+    if (argc != 4) {
+        fprintf(stderr, "usage: bench PASS PASSES FILE\n");
+        return 2;
+    }
+    fprintf(stderr, "benchmark: pass %s of %s: comparing all results\n", argv[1], argv[2]);
     plain_rows.init();
     mask_rows.init();
     make_lines();
@@ -175,9 +183,10 @@ int main(void)
         check(&lines[n]);
     for (unsigned n = 0; n < LINES; n++)
         plan(&lines[n]);
-    unsigned rounds = time_rounds();
+    unsigned rounds = time_rounds(start, argv[1], argv[2]);
     for (unsigned n = 0; n < LINES; n++)
         check_again(&lines[n]);
-    print_report(rounds);
+    write_pass(argv[3], rounds);
+    fprintf(stderr, "benchmark: pass %s of %s: %u rounds, %.0f s in all\n", argv[1], argv[2], rounds, (now() - start) / 1e9);
     return 0;
 }

@@ -1,33 +1,15 @@
-/* What the files of the benchmark share: jobs, variants, the times of both, the peers' calls.
+/* What the files of the measuring program share: jobs, the ways in which variants do them, the times of both.
    Every variant works on the job's own bytes, so that all have the same placement. */
 #ifndef BENCH_H
 #define BENCH_H
 
+#include "results.h"
 #include "shelf.h"
 
-#include <stdbool.h>
-#include <stddef.h>
-#include <stdint.h>
+#define DATA_BYTES ((size_t)DATA_MIB << 20)
+#define SMALL_BYTES ((size_t)SMALL_MIB << 20)
 
-#define SEED 285u
-#define DATA_BYTES ((size_t)16 << 20) /* the data blocks of an array, rounded up to a whole stripe */
-#define SMALL_BYTES ((size_t)1 << 20) /* those of an array in cache */
-
-enum { MOST_DATA = 16, MOST_VARIANTS = 14, MOST_ROUNDS = 200 };
-
-/* A stripe's works, those of a shelf over its whole array, two rebuilds that only the comparison of the
-   layouts needs, those of a shelf with blocks listed, the test of the list alone, and parity of a stripe
-   without Q. */
-enum work {
-    PARITY, ONE_BLOCK, TWO_BLOCKS, ALL_STRIPES,
-    WRITE, READ, FETCH, FETCH_ONE, FETCH_TWO, REBUILD_ONE, REBUILD_TWO, REBUILD_PARITY, FULL_RESYNC,
-    REBUILD_WITH_P, REBUILD_WITH_Q,
-    LOG_AGAIN, LOG_NEW, RESYNC,
-    TEST,
-    P_ALONE,
-    WORKS,
-    SHELF_WORKS = WRITE, MIXED_WORKS = REBUILD_WITH_P, LIST_WORKS = LOG_AGAIN /* the first of a kind */
-};
+enum { MOST_DATA = 16, MOST_ROUNDS = 200 };
 
 struct job {
     enum work work;
@@ -57,12 +39,11 @@ struct job {
 
 typedef void call_of_job(const struct job *job);
 
-struct variant {
-    const char *name;
-    bool wide;                /* its code may leave upper halves of vector registers in use */
-    size_t layout;            /* that it works in */
-    call_of_job *call[WORKS]; /* null: it has no call for this work */
-    bool single;              /* it works on the array without Q */
+/* How a variant works: its layout, whether on the array without Q, its call for each work, null where it has none. */
+struct way {
+    size_t layout;
+    bool single;
+    call_of_job *call[WORKS];
 };
 
 /* A line of a table: a job in the fixed layout, which variants are timed, and for each of them how many
@@ -71,25 +52,27 @@ struct line {
     struct job job;
     bool alone;    /* of those of the fixed layout only this library, and C to compare the layouts in */
     bool rotating; /* the variants of the rotating layout and those without Q too */
-    uint64_t calls[MOST_VARIANTS];
-    double times[MOST_VARIANTS][MOST_ROUNDS];
+    uint64_t calls[VARIANTS];
+    double times[VARIANTS][MOST_ROUNDS];
 };
 
-/* The variants (variants.c): this library first, then the one that results are held to, then the
-   other peers. Some are told by their place from the end: a call that only tests the list, the C test of the
-   list, C and this library in the rotating layout, C in the fixed one beside it, this library without Q.
-   takes_part: whether one is timed on a line. job_of: the line's job as it is for one. */
-enum { LIST_TEST = 1, C_LIST_TEST, C_ROTATING, ROTATING, C_FIXED, SINGLE };
-extern const struct variant variants[];
-extern const unsigned variant_count;
-bool takes_part(const struct line *line, const struct variant *v);
-struct job job_of(const struct line *line, const struct variant *v);
+/* The variants (variants.c). The first results are made by REFERENCE, and the others held to them.
+   takes_part: whether a variant is timed on a line. job_of: the line's job as it is for one. */
+#ifdef WITH_ISAL
+#define REFERENCE ISAL_SUMS
+#else
+#define REFERENCE C_ROWS
+#endif
+extern const struct way ways[VARIANTS];
+bool takes_part(const struct line *line, enum variant v);
+struct job job_of(const struct line *line, enum variant v);
 
 /* The timing (bench.c). turn_to comes before a job's calls, and puts its bytes in its layout; run_batch
-   makes calls of a variant and answers what they took, in nanoseconds. */
+   makes calls of a variant and answers what they took, in nanoseconds. fail ends the program with an error. */
 uint64_t next_random(void);
 void turn_to(const struct job *job);
-double run_batch(const struct variant *v, const struct job *job, uint64_t calls);
+double run_batch(enum variant v, const struct job *job, uint64_t calls);
+void fail(const struct job *job, const char *who, const char *what);
 
 /* The lines (jobs.c): by work, then by measures, and those with blocks listed by their number at
    last; those of the test of the list are by d, then by slots, then by that number; those of a small array
@@ -104,21 +87,19 @@ enum {
     LINES = P_LINES + P_MEASURES
 };
 extern struct line lines[LINES];
-extern const uint32_t counts[COUNTS], test_counts[COUNTS];
 extern const enum work laid_works[LAID_WORKS];
 void make_lines(void);
 void check(const struct line *line);
 void compare(const struct job *job, const char *who);
 
-/* The report (report.c). fail ends the program with an error. */
-void fail(const struct job *job, const char *who, const char *what);
-void print_report(unsigned rounds);
+/* The file of a pass (pass.c), which results.c reads. */
+void write_pass(const char *path, unsigned rounds);
 
 /* The shelf (shelf.c): what it is lent beside the array, and this library's calls. The log has
    records for the originals and the latest values of all that can be listed, and those of one write
    more; the slots are the job's, SLOTS at most. format and start change the job's record; log_blocks
    hands back the record after it. ours_passes tells whether the list gets another number than 3. */
-enum { SLOTS = 256, PLACES = 4096, LOG_RECORDS = 2 * PLACES + 2 };
+enum { LOG_RECORDS = 2 * PLACES + 2 };
 size_t list_len(const struct job *job);
 void format(struct job *job);
 void start(struct job *job);
@@ -132,14 +113,14 @@ call_of_job ours_write, ours_read, ours_fetch, ours_fetch_lost, ours_rebuild, ou
 /* The layouts by C (layouts.c): a job in another one, a job of the fixed one without Q, the member that has
    a role in a stripe, where a member's block stands in an array; and the bytes put in the job's layout, as
    they must be. turn_array makes the array of the rotating layout from that of the fixed one. The calls work
-   in either layout, with two parities. */
+   in either layout, with two parities; the rebuild of two members in the fixed one alone. */
 struct job in_layout(const struct job *job, size_t layout);
 struct job without_q(const struct job *job);
 uint32_t member_of(const struct job *job, uint32_t t, uint32_t role);
 size_t offset_of(const struct job *job, uint32_t member, uint32_t t);
 void lay_out(const struct job *job);
 void turn_array(const struct job *job);
-call_of_job c_write, c_read, c_rebuild, c_full_resync;
+call_of_job c_write, c_read, c_rebuild, c_rebuild_two, c_full_resync;
 
 /* Blocks copied by C (copies.c): block address of an array, a stripe from the data to the array, and
    all blocks from the array to the copy. */
@@ -147,7 +128,7 @@ uint8_t *block_at(const struct job *job, size_t address);
 void put_stripe(const struct job *job, uint32_t t);
 call_of_job copy_data, copy_blocks;
 
-/* The C rows (rows.c): blocks of b bytes, each stride bytes after the one before it, or, in the last two,
+/* The C rows (rows.c): blocks of b bytes, each stride bytes after the one before it, or, in the last three,
    anywhere. init comes before the others. They are there twice, with the doubling written in two ways. */
 struct rows {
     void (*init)(void);
@@ -157,6 +138,7 @@ struct rows {
     void (*recover_two)(uint32_t d, size_t b, uint32_t x, uint32_t y, uint8_t *stripe);
     void (*parity_at)(uint32_t d, size_t b, uint8_t *const *blocks);
     void (*recover_at)(uint32_t d, size_t b, uint32_t x, uint8_t *const *blocks);
+    void (*recover_two_at)(uint32_t d, size_t b, uint32_t x, uint32_t y, uint8_t *const *blocks);
 };
 extern const struct rows plain_rows, mask_rows;
 

@@ -201,9 +201,9 @@ void check_tests(const struct job *job)
         if (!faults[k](job))
             continue;
         if (list_passes(job))
-            fail(job, "C test of the list", "a damaged list passed");
+            fail(job, variant_names[C_LIST_TEST], "a damaged list passed");
         if (ours_passes(job))
-            fail(job, "this library", "a damaged list passed");
+            fail(job, variant_names[OURS], "a damaged list passed");
         damaged_lists++;
         memcpy(job->list, good, list_len(job));
     }

@@ -11,10 +11,10 @@
 
 static const uint32_t measures[MEASURES][2] = {{5, 512}, {5, 4096}, {16, 512}, {16, 4096}};
 static const uint32_t p_measures[P_MEASURES][2] = {{3, 512}, {3, 4096}, {5, 512}, {5, 4096}, {16, 512}, {16, 4096}};
-const uint32_t counts[COUNTS] = {16, 256, PLACES};
+static const uint32_t counts[COUNTS] = {16, 256, PLACES};
 
 static const uint32_t test_widths[TEST_WIDTHS] = {5, 16}, test_slots[TEST_SLOTS] = {SLOTS, 16, 1};
-const uint32_t test_counts[COUNTS] = {64, 512, PLACES};
+static const uint32_t test_counts[COUNTS] = {64, 512, PLACES};
 
 /* The works that the layouts are compared in, and at last those that are only there in the fixed one. */
 const enum work laid_works[LAID_WORKS] = {FULL_RESYNC, WRITE, READ, FETCH, REBUILD_ONE, REBUILD_TWO,
@@ -52,7 +52,7 @@ static void name_members(struct job *job)
     }
 }
 
-/* Fills a line's job with random data, with P and Q by the second variant, and keeps a copy. */
+/* Fills a line's job with random data, with P and Q by the reference, and keeps a copy. */
 static void fill(struct line *line)
 {
     struct job making = line->job;
@@ -63,7 +63,7 @@ static void fill(struct line *line)
         memcpy(making.bytes + k, &word, sizeof word);
     }
     turn_to(&making);
-    run_batch(&variants[1], &making, 1);
+    run_batch(REFERENCE, &making, 1);
     line->job.sound[SHELF_FIXED] = memcpy(pages(making.len), making.bytes, making.len);
 }
 
@@ -188,7 +188,7 @@ static void list_blocks(struct job *job, uint32_t count)
         left -= whole ? d : few;
     }
     if (left > 0 || job->record.listed != count)
-        fail(job, "this library", "another number of blocks is listed");
+        fail(job, variant_names[OURS], "another number of blocks is listed");
 }
 
 /* Makes a line for the test of the list: a shelf of blocks of one byte, all zero. */
@@ -282,15 +282,15 @@ void compare(const struct job *job, const char *who)
 }
 
 /* Holds what a variant makes over spoilt blocks to the sound bytes; a resync makes stripe 0. */
-static void check_made(const struct job *job, const struct variant *v)
+static void check_made(const struct job *job, enum variant v)
 {
     spoil_made(job, job->work == RESYNC ? 1 : job->s);
     run_batch(v, job, 1);
-    compare(job, v->name);
+    compare(job, variant_names[v]);
 }
 
 /* Holds what a variant reads to the data, or to the blocks of disk x while the failed disks are spoilt. */
-static void check_read(const struct job *job, const struct variant *v)
+static void check_read(const struct job *job, enum variant v)
 {
     size_t member = (size_t)job->s * job->b;
     bool lost = job->work == FETCH_ONE || job->work == FETCH_TWO;
@@ -300,25 +300,25 @@ static void check_read(const struct job *job, const struct variant *v)
     if (lost)
         spoil_made(job, job->s);
     run_batch(v, job, 1);
-    hold(job, v->name, job->copy, want, len);
+    hold(job, variant_names[v], job->copy, want, len);
     memcpy(job->bytes, job->sound[job->layout], job->len);
 }
 
 /* Holds a logged block to the data: as it is fetched after the call while its disk is spoilt and failed. */
-static void check_logged(const struct job *job, const struct variant *v)
+static void check_logged(const struct job *job, enum variant v)
 {
     uint8_t *block = block_at(job, job->address);
     const uint8_t *want = job->data + job->address * job->b;
     set_list(job);
     struct shelf_record after = log_blocks(job, job->address, 1);
     if (after.listed != job->listed)
-        fail(job, v->name, "another number of blocks is listed");
-    compare(job, v->name);
+        fail(job, variant_names[v], "another number of blocks is listed");
+    compare(job, variant_names[v]);
     spoil(block, want, job->b);
     spoil(job->copy, want, job->b);
     after.failed[(block - job->bytes) / offset_of(job, 1, 0)] = true;
     fetch_block(job, after, job->address, job->copy);
-    hold(job, v->name, job->copy, want, job->b);
+    hold(job, variant_names[v], job->copy, want, job->b);
     memcpy(block, want, job->b);
 }
 
@@ -332,10 +332,9 @@ void check(const struct line *line)
         check_tests(&line->job);
         return;
     }
-    for (unsigned k = 0; k < variant_count; k++) {
-        const struct variant *v = &variants[k];
+    for (enum variant v = 0; v < VARIANTS; v++) {
         struct job job = job_of(line, v);
-        if (!takes_part(line, v) || v->call[work] == copy_data || v->call[work] == ours_test)
+        if (!takes_part(line, v) || ways[v].call[work] == copy_data || ways[v].call[work] == ours_test)
             continue;
         turn_to(&job);
         if (work == LOG_AGAIN || work == LOG_NEW)

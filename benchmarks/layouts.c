@@ -105,6 +105,16 @@ void c_rebuild(const struct job *job)
     }
 }
 
+/* Fills data members x and y of the fixed layout. */
+void c_rebuild_two(const struct job *job)
+{
+    uint8_t *blocks[MOST_DATA + 2];
+    for (uint32_t t = 0; t < job->s; t++) {
+        find_blocks(job, t, blocks);
+        mask_rows.recover_two_at(job->d, job->b, job->x, job->y, blocks);
+    }
+}
+
 /* Makes all parity. */
 void c_full_resync(const struct job *job)
 {

@@ -108,5 +108,5 @@ bool list_passes(const struct job *job)
 void c_test(const struct job *job)
 {
     if (!list_passes(job))
-        fail(job, "C test of the list", "a sound list did not pass");
+        fail(job, variant_names[C_LIST_TEST], "a sound list did not pass");
 }

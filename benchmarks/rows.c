@@ -122,22 +122,31 @@ static void recover_at(uint32_t d, size_t b, uint32_t x, uint8_t *const *blocks)
             add_row(b, blocks[x], blocks[i]);
 }
 
-/* Data blocks x and y, x below y, from P, Q and the others; the product tables are filled in each
-   call, since a call is told only the members. */
-static void recover_two(uint32_t d, size_t b, uint32_t x, uint32_t y, uint8_t *stripe)
+/* Data blocks x and y of such a stripe, x below y, from P, Q and the others; the product tables are filled in
+   each call, since a call is told only the members. */
+static void recover_two_at(uint32_t d, size_t b, uint32_t x, uint32_t y, uint8_t *const *blocks)
 {
-    uint8_t *rx = stripe + x * b, *ry = stripe + y * b, *p = stripe + d * b;
-    memset(rx, 0, b);
-    memset(ry, 0, b);
+    memset(blocks[x], 0, b);
+    memset(blocks[y], 0, b);
     for (uint32_t i = d; i-- > 0;) {
         if (i != x && i != y)
-            step_row(b, rx, ry, stripe + i * b);
+            step_row(b, blocks[x], blocks[y], blocks[i]);
         else
-            double_row(b, ry);
+            double_row(b, blocks[y]);
     }
     /* With g for 2 to the power y - x: a is g / (g + 1), c is 2 to the power -x over g + 1. */
     unsigned under = logarithms[powers[y - x] ^ 1];
-    solve_rows(b, powers[(y - x + 255 - under) % 255], powers[(510 - x - under) % 255], rx, ry, p, p + b);
+    solve_rows(b, powers[(y - x + 255 - under) % 255], powers[(510 - x - under) % 255], blocks[x], blocks[y], blocks[d],
+               blocks[d + 1]);
 }
 
-const struct rows ROWS = {init, parity, sum, recover_one, recover_two, parity_at, recover_at};
+/* The same of a stripe whose blocks stand one after another. */
+static void recover_two(uint32_t d, size_t b, uint32_t x, uint32_t y, uint8_t *stripe)
+{
+    uint8_t *blocks[MOST_DATA + 2];
+    for (uint32_t i = 0; i < d + 2; i++)
+        blocks[i] = stripe + i * b;
+    recover_two_at(d, b, x, y, blocks);
+}
+
+const struct rows ROWS = {init, parity, sum, recover_one, recover_two, parity_at, recover_at, recover_two_at};

@@ -9,7 +9,7 @@
 static void expect(const struct job *job, size_t code, size_t must)
 {
     if (code != must)
-        fail(job, "this library", "a call of the shelf did not answer what it must");
+        fail(job, variant_names[OURS], "a call of the shelf did not answer what it must");
 }
 
 /* How many bytes the list has. */

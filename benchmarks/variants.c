@@ -8,27 +8,25 @@
 /* The export of libprobe.a: the parity of every stripe of an array kept by member. It answers 0. */
 uint32_t probe_make_parity_all(uint32_t d, uint32_t parities, uint32_t s, uint32_t b, uint8_t *array, size_t len);
 
-static const char ours[] = "this library";
-
 /* Parity of one stripe by the archive. */
 static void ours_parity(const struct job *job)
 {
     if (stripe_make_parity(job->d, job->parities, job->b, job->bytes, job->len) != 0)
-        fail(job, ours, "parity was refused");
+        fail(job, variant_names[OURS], "parity was refused");
 }
 
 /* Recovery of one or two members by the archive. */
 static void ours_recover(const struct job *job)
 {
     if (stripe_recover(job->d, job->parities, job->b, job->x, job->y, job->bytes, job->len) != 0)
-        fail(job, ours, "recovery was refused");
+        fail(job, variant_names[OURS], "recovery was refused");
 }
 
 /* Parity of all stripes by the archive. */
 static void ours_all(const struct job *job)
 {
     if (probe_make_parity_all(job->d, job->parities, job->s, job->b, job->bytes, job->len) != 0)
-        fail(job, ours, "parity of all stripes was refused");
+        fail(job, variant_names[OURS], "parity of all stripes was refused");
 }
 
 /* The calls of a set of C rows: parity of one stripe with Q and without, recovery of one data block and of
@@ -71,56 +69,55 @@ CALLS_OF(mask)
 #define ROWS_OF(set)                                                                               \
     {[PARITY] = set##_parity, [ONE_BLOCK] = set##_one, [TWO_BLOCKS] = set##_two, [ALL_STRIPES] = set##_all,   \
      [P_ALONE] = set##_sum}
-#define LAYOUTS_IN_C                                                                               \
-    {[WRITE] = c_write, [READ] = c_read, [FETCH] = c_read, [REBUILD_ONE] = c_rebuild,              \
-     [FULL_RESYNC] = c_full_resync}
 
-const struct variant variants[] = {
-    {ours, false, SHELF_FIXED,
+const struct way ways[VARIANTS] = {
+    [OURS] = {SHELF_FIXED, false,
      {[PARITY] = ours_parity, [ONE_BLOCK] = ours_recover, [TWO_BLOCKS] = ours_recover, [ALL_STRIPES] = ours_all,
       [WRITE] = ours_write, [READ] = ours_read, [FETCH] = ours_fetch, [FETCH_ONE] = ours_fetch_lost,
       [FETCH_TWO] = ours_fetch_lost, [REBUILD_ONE] = ours_rebuild, [REBUILD_TWO] = ours_rebuild,
       [REBUILD_PARITY] = ours_rebuild, [FULL_RESYNC] = ours_full_resync, [REBUILD_WITH_P] = ours_rebuild,
       [REBUILD_WITH_Q] = ours_rebuild,
       [LOG_AGAIN] = ours_log, [LOG_NEW] = ours_log, [RESYNC] = ours_resync, [TEST] = ours_test,
-      [P_ALONE] = ours_parity}, false},
+      [P_ALONE] = ours_parity}},
 #ifdef WITH_ISAL
-    {"ISA-L pq_gen, xor_gen", true, SHELF_FIXED, SUMS_OF(isal), false},
-    {"the same for SSE", false, SHELF_FIXED, SUMS_OF(isal_sse), false},
-    {"ISA-L ec_encode_data", true, SHELF_FIXED, PRODUCTS_OF(isal), false},
-    {"the same for SSE", false, SHELF_FIXED, PRODUCTS_OF(isal_sse), false},
+    [ISAL_SUMS] = {SHELF_FIXED, false, SUMS_OF(isal)},
+    [SSE_SUMS] = {SHELF_FIXED, false, SUMS_OF(isal_sse)},
+    [ISAL_PRODUCTS] = {SHELF_FIXED, false, PRODUCTS_OF(isal)},
+    [SSE_PRODUCTS] = {SHELF_FIXED, false, PRODUCTS_OF(isal_sse)},
 #endif
-    {"C rows", false, SHELF_FIXED, ROWS_OF(plain), false},
-    {"C rows by mask", false, SHELF_FIXED, ROWS_OF(mask), false},
-    {"memcpy", false, SHELF_FIXED,
+    [C_ROWS] = {SHELF_FIXED, false, ROWS_OF(plain)},
+    [MASK_ROWS] = {SHELF_FIXED, false, ROWS_OF(mask)},
+    [MEMCPY] = {SHELF_FIXED, false,
      {[PARITY] = copy_data, [ONE_BLOCK] = copy_data, [TWO_BLOCKS] = copy_data, [ALL_STRIPES] = copy_data,
-      [READ] = copy_blocks, [FETCH] = copy_blocks, [P_ALONE] = copy_data}, false},
-    {"this library with one parity", false, SHELF_FIXED,
-     {[WRITE] = ours_write, [REBUILD_ONE] = ours_rebuild, [FULL_RESYNC] = ours_full_resync}, true},
-    {"C in the fixed layout", false, SHELF_FIXED, LAYOUTS_IN_C, false},
-    {"this library in the rotating layout", false, SHELF_ROTATING,
+      [READ] = copy_blocks, [FETCH] = copy_blocks, [P_ALONE] = copy_data}},
+    [SINGLE] = {SHELF_FIXED, true,
+     {[WRITE] = ours_write, [REBUILD_ONE] = ours_rebuild, [FULL_RESYNC] = ours_full_resync}},
+    [C_FIXED] = {SHELF_FIXED, false,
+     {[WRITE] = c_write, [READ] = c_read, [FETCH] = c_read, [REBUILD_ONE] = c_rebuild, [REBUILD_TWO] = c_rebuild_two,
+      [FULL_RESYNC] = c_full_resync}},
+    [ROTATING] = {SHELF_ROTATING, false,
      {[WRITE] = ours_write, [READ] = ours_read, [FETCH] = ours_fetch, [REBUILD_ONE] = ours_rebuild,
       [REBUILD_TWO] = ours_rebuild, [FULL_RESYNC] = ours_full_resync, [LOG_AGAIN] = ours_log, [LOG_NEW] = ours_log,
-      [RESYNC] = ours_resync}, false},
-    {"C in the rotating layout", false, SHELF_ROTATING, LAYOUTS_IN_C, false},
-    {"C test of the list", false, SHELF_FIXED, {[TEST] = c_test}, false},
-    {"list test", false, SHELF_FIXED, {[LOG_AGAIN] = ours_test, [LOG_NEW] = ours_test, [RESYNC] = ours_test}, false},
+      [RESYNC] = ours_resync}},
+    [C_ROTATING] = {SHELF_ROTATING, false,
+     {[WRITE] = c_write, [READ] = c_read, [FETCH] = c_read, [REBUILD_ONE] = c_rebuild, [FULL_RESYNC] = c_full_resync}},
+    [C_LIST_TEST] = {SHELF_FIXED, false, {[TEST] = c_test}},
+    [LIST_TEST] = {SHELF_FIXED, false, {[LOG_AGAIN] = ours_test, [LOG_NEW] = ours_test, [RESYNC] = ours_test}},
 };
-const unsigned variant_count = sizeof variants / sizeof variants[0];
 
 /* Whether a variant is timed on a line. */
-bool takes_part(const struct line *line, const struct variant *v)
+bool takes_part(const struct line *line, enum variant v)
 {
-    if (v->call[line->job.work] == NULL)
+    if (ways[v].call[line->job.work] == NULL)
         return false;
-    if (v->layout == SHELF_ROTATING || v->single)
+    if (ways[v].layout == SHELF_ROTATING || ways[v].single)
         return line->rotating;
-    return !line->alone || v == variants || v == &variants[variant_count - C_FIXED];
+    return !line->alone || v == OURS || v == C_FIXED;
 }
 
 /* A line's job as it is for a variant: in its layout, and without Q where it works so. */
-struct job job_of(const struct line *line, const struct variant *v)
+struct job job_of(const struct line *line, enum variant v)
 {
-    struct job job = in_layout(&line->job, v->layout);
-    return v->single ? without_q(&job) : job;
+    struct job job = in_layout(&line->job, ways[v].layout);
+    return ways[v].single ? without_q(&job) : job;
 }

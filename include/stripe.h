@@ -29,6 +29,9 @@
 extern "C" {
 #endif
 
+/* The version, which rises with each change that a caller can see; docs/MANUAL.md lists them. */
+#define STRIPE_VERSION 7
+
 /* The ranges of d, parities and b. */
 #define STRIPE_MIN_DATA 2
 #define STRIPE_MAX_DATA 16
@@ -44,6 +47,13 @@ extern "C" {
 #define STRIPE_TWO_MISSING 11 /* x and y differ, and there is one parity (stripe_recover only) */
 #define STRIPE_OK 0
 
+/* A number that is not looked at is warned of. */
+#ifdef __GNUC__
+#define STRIPE_ANSWER __attribute__((warn_unused_result))
+#else
+#define STRIPE_ANSWER
+#endif
+
 /* Makes the parities of the data.
  *
  *   d         how many data blocks the stripe has, 2 to 16
@@ -55,7 +65,7 @@ extern "C" {
  * Answers 0, 1 or 2. With 0, P and, with two parities, Q are stored and the data is as it was; with 1 or 2, nothing is
  * stored.
  */
-uint32_t stripe_make_parity(uint32_t d, uint32_t parities, uint32_t b, uint8_t *stripe, size_t len);
+STRIPE_ANSWER uint32_t stripe_make_parity(uint32_t d, uint32_t parities, uint32_t b, uint8_t *stripe, size_t len);
 
 /* Recovers missing members from the others: one, or with two parities one or two.
  *
@@ -79,7 +89,53 @@ uint32_t stripe_make_parity(uint32_t d, uint32_t parities, uint32_t b, uint8_t *
  * The members that are there are taken as they are: the call does not test whether they agree with each other. If they
  * are those of a stripe that stripe_make_parity made, the buffer is that stripe again.
  */
-uint32_t stripe_recover(uint32_t d, uint32_t parities, uint32_t b, uint32_t x, uint32_t y, uint8_t *stripe, size_t len);
+STRIPE_ANSWER uint32_t stripe_recover(uint32_t d, uint32_t parities, uint32_t b, uint32_t x, uint32_t y,
+                                      uint8_t *stripe, size_t len);
+
+/* How many bytes the buffer of a stripe has; 0 for numbers out of their ranges. */
+static inline size_t stripe_len(uint32_t d, uint32_t parities, uint32_t b)
+{
+    if (d < STRIPE_MIN_DATA || d > STRIPE_MAX_DATA || parities < STRIPE_MIN_PARITIES ||
+        parities > STRIPE_MAX_PARITIES || b < STRIPE_MIN_BLOCK || b > STRIPE_MAX_BLOCK)
+        return 0;
+    return (size_t)(d + parities) * b;
+}
+
+/* The numbers with a short text each. */
+#define STRIPE_EACH_NUMBER(X)                                        \
+    X(STRIPE_OK, "accepted")                                         \
+    X(STRIPE_BAD_MEASURES, "d, parities or b is out of its range")   \
+    X(STRIPE_BAD_LENGTH, "the buffer has not the stripe's length")   \
+    X(STRIPE_BAD_MEMBER, "no such member")                           \
+    X(STRIPE_TWO_MISSING, "two members are missing, with one parity")
+
+/* The name of a number, as "STRIPE_BAD_MEMBER"; of one that no call answers, "". */
+static inline const char *stripe_name(uint32_t code)
+{
+#define STRIPE_NAME_CASE(name, text) \
+    case name:                       \
+        return #name;
+    switch (code) {
+        STRIPE_EACH_NUMBER(STRIPE_NAME_CASE)
+    default:
+        return "";
+    }
+#undef STRIPE_NAME_CASE
+}
+
+/* A short text for a number, as "no such member"; of one that no call answers, "". */
+static inline const char *stripe_text(uint32_t code)
+{
+#define STRIPE_TEXT_CASE(name, text) \
+    case name:                       \
+        return text;
+    switch (code) {
+        STRIPE_EACH_NUMBER(STRIPE_TEXT_CASE)
+    default:
+        return "";
+    }
+#undef STRIPE_TEXT_CASE
+}
 
 #ifdef __cplusplus
 }

@@ -584,6 +584,98 @@ static int shelf_single(size_t layout)
     return fault;
 }
 
+/* Whether a geometry asks for these bytes of a member, the array, the log and the list. */
+static int asks_for(struct shelf_geometry g, size_t member, size_t whole, size_t log, size_t words)
+{
+    return shelf_in_range(g) == (whole != 0) && shelf_member_len(g) == member && shelf_array_len(g) == whole &&
+           shelf_log_len(g) == log && shelf_list_len(g) == words;
+}
+
+/* The lengths that the least and the largest shelf ask for, which format accepts of this one and refuses of any other;
+ * none for a measure out of its range. */
+static int shelf_lengths(void)
+{
+    const struct shelf_geometry least = {2, 1, 1, 1, 1, 1, 0, 1}, most = {16, 65536, 4096, 65536, 256, 4096, 1, 2};
+    const size_t below[8] = {1, 0, 0, 0, 0, 0, 0, 0}, above[8] = {17, 65537, 4097, 65537, 257, 4097, 2, 3};
+    const struct shelf_record fresh = {{3, 2, 5, 4, 2, 4, 0, 2}, 0, 0, 0, {false}};
+    size_t fields[8], i;
+    struct shelf_geometry other;
+
+    if (!asks_for(least, 1, 3, 1, 20) || !asks_for(most, 268435456, 4831838208, 268435456, 66560))
+        return 111;
+    if (!asks_for(fresh.geometry, 10, sizeof array, sizeof log_bytes, sizeof list) || shelf_log_member(least) != 3 ||
+        format(fresh).code != SHELF_OK || shelf_log_member(most) != 18)
+        return 112;
+    for (i = 0; i < 16; i++) {
+        memcpy(fields, &least, sizeof fields);
+        fields[i % 8] = i < 8 ? below[i] : above[i - 8];
+        memcpy(&other, fields, sizeof other);
+        if (i != 6 && !asks_for(other, 0, 0, 0, 0))
+            return 113;
+    }
+    if (stripe_len(3, 2, 5) != 25 || stripe_len(16, 1, 4096) != 69632 || stripe_len(1, 2, 5) != 0 ||
+        stripe_len(17, 2, 5) != 0 || stripe_len(3, 0, 5) != 0 || stripe_len(3, 3, 5) != 0 || stripe_len(3, 2, 0) != 0 ||
+        stripe_len(3, 2, 4097) != 0)
+        return 114;
+    return 0;
+}
+
+/* A record saved: its numbers in eight bytes each, then its flags, and nothing behind them; taken back as it was. One
+ * with a flag that is neither 0 nor 1 is not taken. */
+static int shelf_saved(void)
+{
+    const struct shelf_record given = {{3, 2, 5, 0x01020304, 2, 4, 1, 2}, 1, 7, 6, {false, true}};
+    struct shelf_record taken = {{1, 1, 1, 1, 1, 1, 1, 1}, 1, 1, 1, {true}};
+    const struct shelf_record before = taken;
+    uint8_t bytes[SHELF_RECORD_BYTES + 1];
+    size_t i;
+
+    memset(bytes, 66, sizeof bytes);
+    shelf_save(given, bytes);
+    if (bytes[0] != 3 || bytes[24] != 4 || bytes[25] != 3 || bytes[26] != 2 || bytes[27] != 1 || bytes[28] != 0 ||
+        bytes[48] != 1 || bytes[56] != 2 || bytes[64] != 1 || bytes[72] != 7 || bytes[80] != 6 || bytes[88] != 0 ||
+        bytes[89] != 1 || bytes[106] != 0 || bytes[SHELF_RECORD_BYTES] != 66)
+        return 121;
+    for (i = 88; i < SHELF_RECORD_BYTES; i++) {
+        const uint8_t flag = bytes[i];
+        bytes[i] = 2;
+        if (shelf_load(bytes, &taken) || !same(taken, before))
+            return 122;
+        bytes[i] = flag;
+    }
+    if (!shelf_load(bytes, &taken) || !same(taken, given))
+        return 123;
+    return 0;
+}
+
+/* Whether a number has a name that begins so and a text, or neither. */
+static int is_named(const char *start, const char *name, const char *text, int answered)
+{
+    if (!answered)
+        return name[0] == 0 && text[0] == 0;
+    return strncmp(name, start, strlen(start)) == 0 && name[strlen(start)] != 0 && text[0] != 0;
+}
+
+/* Every number that a call answers has its name and a text, all others have none. */
+static int numbers_named(void)
+{
+    size_t i, other;
+
+    for (i = 0; i < 100; i++) {
+        if (!is_named("SHELF_", shelf_name(i), shelf_text(i), i < 17 && i != 15))
+            return 131;
+        if (!is_named("STRIPE_", stripe_name((uint32_t)i), stripe_text((uint32_t)i),
+                      i < 3 || i == STRIPE_BAD_MEMBER || i == STRIPE_TWO_MISSING))
+            return 132;
+        for (other = 0; other < i && shelf_name(i)[0] != 0; other++)
+            if (strcmp(shelf_name(i), shelf_name(other)) == 0 || strcmp(shelf_text(i), shelf_text(other)) == 0)
+                return 133;
+    }
+    if (strcmp(shelf_name(SHELF_BAD_LIST), "SHELF_BAD_LIST") != 0 || SHELF_VERSION != STRIPE_VERSION)
+        return 134;
+    return 0;
+}
+
 /* Goes through both headers. */
 int main(void)
 {
@@ -601,5 +693,11 @@ int main(void)
         fault = shelf_single(SHELF_FIXED);
     if (fault == 0)
         fault = shelf_single(SHELF_ROTATING);
+    if (fault == 0)
+        fault = shelf_lengths();
+    if (fault == 0)
+        fault = shelf_saved();
+    if (fault == 0)
+        fault = numbers_named();
     return fault;
 }

@@ -9,9 +9,11 @@ mod calls;
 mod examples;
 mod field;
 mod model;
+mod pages;
 mod products;
 mod published;
 mod random;
+mod readme;
 mod recovery;
 mod refusals;
 mod shelf;
@@ -27,7 +29,7 @@ pub type Outcome = Result<String, String>;
 type Group = fn(u64) -> Outcome;
 
 /// The groups in the order in which they run.
-const GROUPS: [(&str, Group); 21] = [
+const GROUPS: [(&str, Group); 25] = [
     ("field", field::group),
     ("products", products::group),
     ("examples", examples::group),
@@ -47,8 +49,12 @@ const GROUPS: [(&str, Group); 21] = [
     ("random shelves", shelf::cases::random::group),
     ("walks", shelf::cases::walks::group),
     ("sequences", shelf::cases::sequences::group),
+    ("cuts", shelf::cases::cuts::group),
+    ("steps", shelf::cases::steps::group),
     ("limits", shelf::cases::limits::group),
     ("bench program", bench::group),
+    ("README", readme::group),
+    ("pages", pages::group),
 ];
 
 /// Runs the groups that are named, or all, one after another, up to the first that fails.

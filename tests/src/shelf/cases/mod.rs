@@ -1,5 +1,6 @@
-//! The groups of cases, one in each file.
+//! The groups of cases, one in each file; beside them the trails, which cuts and steps share.
 
+pub mod cuts;
 pub mod limits;
 pub mod marked;
 pub mod order;
@@ -11,5 +12,7 @@ pub mod rows;
 pub mod sequences;
 pub mod sessions;
 pub mod single;
+pub mod steps;
 pub mod tiny;
+mod trails;
 pub mod walks;
