@@ -3,18 +3,23 @@
    SOURCE says what was measured: the commit and the archives. */
 #include "page.h"
 
+#include <stdbool.h>
 #include <stdio.h>
 #include <stdlib.h>
 #include <string.h>
 
 enum { SHOWN_D = 5, SHOWN_B = 4096 }; /* the measures of what is seen at a glance */
 
-/* The ratios of this library's speed to a peer's, over all measures of a work and all passes. */
-static struct spread range_of(enum work work, unsigned mib, enum peer peer)
+/* The ratios of this library's speed to a peer's, over all measures of a work: those of all passes, or their medians. */
+static struct spread range_of(enum work work, unsigned mib, enum peer peer, bool medians)
 {
     struct spread all = NO_SPREAD;
-    for (const struct result *row = next_row(NULL, work, work, mib); row != NULL; row = next_row(row, work, work, mib))
-        all = joined(all, ratio_of(row, peer_of(row, peer)));
+    for (const struct result *row = next_row(NULL, work, work, mib); row != NULL; row = next_row(row, work, work, mib)) {
+        struct spread one = ratio_of(row, peer_of(row, peer));
+        if (medians)
+            one.low = one.high = one.middle;
+        all = joined(all, one);
+    }
     return all;
 }
 
@@ -50,28 +55,29 @@ static void print_rows(void)
     printf("\n");
 }
 
-/* Says in two sentences how the library stands to ISA-L. */
-static void say_isal(void)
+/* Prints the row of a work: this library's speed as a part of each peer's. */
+static void print_part(enum work work, unsigned mib)
 {
-    struct spread wide = range_of(PARITY, 0, CHOICE_PEER), sse = range_of(PARITY, 0, SSE_PEER);
-    struct spread all_wide = range_of(ALL_STRIPES, DATA_MIB, CHOICE_PEER), all_sse = range_of(ALL_STRIPES, DATA_MIB, SSE_PEER);
-    struct spread one_wide = range_of(ONE_BLOCK, 0, CHOICE_PEER), one_sse = range_of(ONE_BLOCK, 0, SSE_PEER);
-    struct spread two_wide = range_of(TWO_BLOCKS, 0, CHOICE_PEER), two_sse = range_of(TWO_BLOCKS, 0, SSE_PEER);
-    say("Over all d, B and passes, parity of a stripe is made at %.2f to %.2f of the speed of ISA-L's widest code and at %.2f to %.2f"
-        " of that of its code for SSE, and parity of an array at %.2f to %.2f and at %.2f to %.2f. One data block is recovered at"
-        " %.2f to %.2f and at %.2f to %.2f of these speeds, two are at %.2f to %.2f and at %.2f to %.2f.",
-        wide.low, wide.high, sse.low, sse.high, all_wide.low, all_wide.high, all_sse.low, all_sse.high,
-        one_wide.low, one_wide.high, one_sse.low, one_sse.high, two_wide.low, two_wide.high, two_sse.low, two_sse.high);
+    printf("| %s |", work_names[work]);
+    for (enum peer p = has_isal() ? SSE_PEER : C_PEER; p < PEERS; p++) {
+        struct spread middle = range_of(work, mib, p, true), all = range_of(work, mib, p, false);
+        printf(" %.2f to %.2f (%.2f to %.2f) |", middle.low, middle.high, all.low, all.high);
+    }
+    printf("\n");
 }
 
-/* Says in one sentence how it stands to plain C. */
-static void say_plain_c(void)
+/* Prints the table of these parts. */
+static void print_parts(void)
 {
-    struct spread parity = range_of(PARITY, 0, C_PEER), all = range_of(ALL_STRIPES, DATA_MIB, C_PEER);
-    struct spread one = range_of(ONE_BLOCK, 0, C_PEER), two = range_of(TWO_BLOCKS, 0, C_PEER);
-    say("Beside plain C, parity of a stripe is at %.2f to %.2f, of an array at %.2f to %.2f, one data block recovered at %.2f to"
-        " %.2f, two at %.2f to %.2f, over all d, B and passes.",
-        parity.low, parity.high, all.low, all.high, one.low, one.high, two.low, two.high);
+    say("This library's speed as a part of the peers', over all d and B: by the median of the passes, and in brackets over all"
+        " passes.");
+    printf(has_isal() ? "| part | of ISA-L for SSE | of ISA-L's choice | of plain C |\n|---|---|---|---|\n"
+                      : "| part | of plain C |\n|---|---|\n");
+    print_part(PARITY, 0);
+    print_part(ALL_STRIPES, DATA_MIB);
+    print_part(ONE_BLOCK, 0);
+    print_part(TWO_BLOCKS, 0);
+    printf("\n");
 }
 
 /* Prints the part that is seen at a glance. */
@@ -87,9 +93,7 @@ static void print_glance(void)
         say("ISA-L is shown by its code for SSE, the width that this library is compiled for, and by the code that it chooses for the"
             " processor, the widest one, here %s.", run.vectors);
     print_rows();
-    if (has_isal())
-        say_isal();
-    say_plain_c();
+    print_parts();
 }
 
 /* The processor's name, as the kernel gives it. */

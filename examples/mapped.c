@@ -20,23 +20,23 @@
 enum { D = 3, S = 16, B = 4096, L = 64, H = 16, E = 64, PARITIES = 2, BLOCKS = D * S };
 static const struct shelf_geometry geometry = {D, S, B, L, H, E, SHELF_ROTATING, PARITIES};
 
-/* The call that is under way when a slot is saved: none, format, rebuild, or another one that stores. */
+/* The call that is under way when a copy is saved: none, format, rebuild, or another one that stores. */
 enum call { NONE, FORMAT, REBUILD, STORE };
 
-/* What is saved beside array and log: record and list of one moment, and the call under way. Two slots are written by
- * turns, in pages of their own; the one that has its sum and the higher count is the one that counts. */
-enum { SLOT_BYTES = 4096 };
-struct slot {
+/* What is saved beside array and log: record and list of one moment, and a note of the call under way. Two copies are
+ * written by turns, in pages of their own; the one that has its sum and the higher count is the one that counts. */
+enum { COPY_BYTES = 4096 };
+struct copy {
     uint64_t count, version;
     uint8_t record[SHELF_RECORD_BYTES], under_way, list[4 * H + 16 * E];
     uint64_t sum;
 };
 
-/* The shelf while it is open: the record, the range with all members, the log, the list, and the slot saved last. */
+/* The shelf while it is open: the record, the range with all members, the log, the list, and the copy saved last. */
 static struct shelf_record shelf;
 static uint8_t *array, *records, list[4 * H + 16 * E], data[BLOCKS * B];
-static struct slot saved;
-static int slots;
+static struct copy saved;
+static int copies;
 #define BUFFERS array, shelf_array_len(geometry), records, shelf_log_len(geometry), list, sizeof list
 
 /* Ends the program if something did not work. */
@@ -58,18 +58,18 @@ static struct shelf_record accepted(struct shelf_answer answer, const char *what
     return answer.shelf;
 }
 
-/* A checksum of a slot's bytes but its last eight (FNV-1a). */
-static uint64_t sum_of(const struct slot *slot)
+/* A checksum of a copy's bytes but its last eight (FNV-1a). */
+static uint64_t sum_of(const struct copy *copy)
 {
-    const uint8_t *bytes = (const uint8_t *)slot;
+    const uint8_t *bytes = (const uint8_t *)copy;
     uint64_t sum = 14695981039346656037u;
 
-    for (size_t i = 0; i < offsetof(struct slot, sum); i++)
+    for (size_t i = 0; i < offsetof(struct copy, sum); i++)
         sum = (sum ^ bytes[i]) * 1099511628211u;
     return sum;
 }
 
-/* Saves record and list, as they are, in the older slot. */
+/* Saves record and list, as they are, in the older copy, and waits until it is on the disk. */
 static void save(enum call under_way)
 {
     saved.count++;
@@ -78,8 +78,8 @@ static void save(enum call under_way)
     shelf_save(shelf, saved.record);
     memcpy(saved.list, list, sizeof list);
     saved.sum = sum_of(&saved);
-    need(pwrite(slots, &saved, sizeof saved, (off_t)(saved.count % 2 * SLOT_BYTES)) == sizeof saved, "a slot");
-    need(fdatasync(slots) == 0, "a slot");
+    need(pwrite(copies, &saved, sizeof saved, (off_t)(saved.count % 2 * COPY_BYTES)) == sizeof saved, "a copy");
+    need(fdatasync(copies) == 0, "a copy");
 }
 
 /* Brings the members that are sound and the log to the disk, and then record and list as a call left them. */
@@ -117,12 +117,12 @@ static int map_member(size_t member, int make)
     return map(name, len, array + member * len, make) != NULL;
 }
 
-/* Takes the slot that counts, if there is one. */
+/* Takes the copy that counts, if there is one. */
 static void load(void)
 {
     for (off_t n = 0; n < 2; n++) {
-        struct slot read;
-        if (pread(slots, &read, sizeof read, n * SLOT_BYTES) == sizeof read && read.sum == sum_of(&read) &&
+        struct copy read;
+        if (pread(copies, &read, sizeof read, n * COPY_BYTES) == sizeof read && read.sum == sum_of(&read) &&
             read.count > saved.count)
             saved = read;
     }
@@ -132,7 +132,7 @@ static void load(void)
              memcmp(&shelf.geometry, &geometry, sizeof geometry) == 0, "the saved record");
 }
 
-/* Opens the shelf, and reports members whose files are lost; the mark of a call that was cut short stays. For a new
+/* Opens the shelf, and reports members whose files are lost; the note of a call that was cut short stays. For a new
  * shelf it makes the files. Hands back how many members were reported. */
 static size_t open_shelf(int make)
 {
@@ -140,8 +140,8 @@ static size_t open_shelf(int make)
 
     array = mmap(NULL, shelf_array_len(geometry), PROT_NONE, MAP_PRIVATE | MAP_ANONYMOUS, -1, 0);
     records = map("log", shelf_log_len(geometry), NULL, make);
-    slots = open("slots", O_RDWR | (make ? O_CREAT : 0), 0600);
-    need(array != MAP_FAILED && records != NULL && slots >= 0, "the range, the log or the slots");
+    copies = open("copies", O_RDWR | (make ? O_CREAT : 0), 0600);
+    need(array != MAP_FAILED && records != NULL && copies >= 0, "the range, the log or the copies");
     load();
     for (size_t member = 0; member < shelf_log_member(geometry); member++)
         if (!map_member(member, make) && !shelf.failed[member]) {
@@ -186,7 +186,7 @@ static size_t replace_members(void)
 }
 
 /* Brings the shelf in order after a call that was cut short, and rebuilds failed members. All calls stand under the
- * mark of the one that was cut short, until the last has ended. */
+ * note of the one that was cut short, until the last has ended. */
 static void mend(void)
 {
     const enum call cut = saved.under_way;

@@ -1,10 +1,11 @@
 /* shelf.h: the record shelf, a log-assisted array with two parities (RAID-6) or one. Link with libshelf.a.
  *
  * A shelf is a record, which each call takes by value and hands back, and three buffers that the caller lends: the
- * array of N = d + parities members, the log and the list. docs/MANUAL.md has what stands where in them, the states of
- * a shelf and the way back from each, how shelves are kept on disks, and what changed from version to version.
+ * array of N = d + parities members, the log and the list. docs/MANUAL.md of the source has what stands where in them,
+ * the conditions of a shelf and the way back from each, how shelves are kept on disks, and what changed from version to
+ * version.
  *
- * Every call takes any numbers and any lengths, and ends. It answers 0, or it refuses with the first number that
+ * Every call takes any arguments and any lengths, and ends. It answers 0, or it refuses with the first number that
  * applies, in rising order; a refusal stores nothing, neither in the shelf's buffers nor in the caller's data, and
  * hands the record back as it was given. What a call is not said to store keeps its bytes.
  */
@@ -61,7 +62,7 @@ extern "C" {
 #define SHELF_RECORD_BYTES 107
 
 /* The numbers answered, in the order in which they are tried; SHELF_OK where no other applies. None is 15. All reasons
- * for 1 and 3 stand in docs/MANUAL.md. */
+ * for 1 and 3 stand in the manual. */
 #define SHELF_BAD_RECORD 1      /* a measure is outside its range, or the rest of the record contradicts itself */
 #define SHELF_BAD_LENGTH 2      /* array, log or list has not the length that the geometry asks for */
 #define SHELF_BAD_LIST 3        /* the list is impossible, or not in its one arrangement */

@@ -15,8 +15,8 @@
  * the power i times byte j of block i, in the field of 256 elements with polynomial 0x11D, where a sum is an exclusive
  * or. This is the parity of H. P. Anvin, "The mathematics of RAID-6". P is the same with either count.
  *
- * Both calls take any numbers and any length. They answer 0, or they refuse with the first of 1, 2, 6 and 11 that
- * applies; a refusal stores nothing. There is no state and no allocation; a call needs a few pages of stack. Calls may
+ * Both calls take any arguments and any length. They answer 0, or they refuse with the first of 1, 2, 6 and 11 that
+ * applies; a refusal stores nothing. There is no state and no allocation. Calls may
  * run at the same time, in any number of threads, as long as their buffers do not overlap.
  */
 #ifndef KUMIROVE_STRIPE_H
@@ -29,7 +29,7 @@
 extern "C" {
 #endif
 
-/* The version, which rises with each change that a caller can see; docs/MANUAL.md lists them. */
+/* The version, which rises with each change that a caller can see; docs/MANUAL.md of the source lists them. */
 #define STRIPE_VERSION 7
 
 /* The ranges of d, parities and b. */

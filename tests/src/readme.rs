@@ -9,8 +9,8 @@ use crate::Outcome;
 /// The most bytes that README.md may have.
 const MOST: usize = 10_240;
 
-/// The header with the calls that README names, and the page with statements.
-const OF_CALLS: &str = "include/shelf.h";
+/// The headers with the calls that README names, and the page with statements.
+const OF_CALLS: [&str; 2] = ["include/shelf.h", "include/stripe.h"];
 const OF_PROOFS: &str = "docs/PROVED.md";
 
 /// The lines of a section of a page, which begins with this heading.
@@ -73,21 +73,22 @@ fn answers(header: &str, call: &str) -> Option<Vec<usize>> {
     Some(numbers(sentence))
 }
 
-/// Fails unless README has a row for every call of the header, with the numbers that the header has. Hands back how
-/// many there are.
+/// Fails unless README has a row for every call of the headers, with the numbers that they have. Hands back how many
+/// there are.
 fn calls(readme: &Page) -> Result<usize, String> {
-    let header = text(OF_CALLS)?;
-    let declared = header.lines().filter(|line| line.starts_with("SHELF_ANSWER struct ")).count();
-    let rows: Vec<&String> = section(readme, "## Calls").filter(|line| line.starts_with("| `shelf_")).collect();
+    let header = OF_CALLS.iter().map(|name| text(name)).collect::<Result<String, String>>()?;
+    let is_call = |line: &&str| line.starts_with("SHELF_ANSWER struct ") || line.starts_with("STRIPE_ANSWER uint32_t ");
+    let declared = header.lines().filter(is_call).count();
+    let rows: Vec<&String> = section(readme, "## Calls").filter(|line| line.starts_with("| `")).collect();
     for row in &rows {
         let name = row.split('`').nth(1).unwrap_or("");
         let shown = numbers(row.rsplit('|').nth(1).unwrap_or(""));
         if answers(&header, name).is_none_or(|due| due.first() != Some(&0) || due[1..] != shown) {
-            return Err(format!("README.md gives {name} other numbers than {OF_CALLS}"));
+            return Err(format!("README.md gives {name} other numbers than its header"));
         }
     }
     if rows.len() != declared {
-        return Err(format!("README.md has rows for {} calls, {OF_CALLS} declares {declared}", rows.len()));
+        return Err(format!("README.md has rows for {} calls, the headers declare {declared}", rows.len()));
     }
     Ok(declared)
 }
@@ -126,7 +127,7 @@ pub fn group(_seed: u64) -> Outcome {
     example(&readme)?;
     Ok(format!(
         "{length} bytes; the example is examples/shelf.c, {} rows and {} spans of speed are in benchmarks/RESULTS.md, \
-         the numbers of {} calls in {OF_CALLS}; {} statements of {OF_PROOFS} are in their files",
+         the numbers of {} calls in the headers; {} statements of {OF_PROOFS} are in their files",
         speed(&readme)?,
         spans(&readme)?,
         calls(&readme)?,
