@@ -5,7 +5,6 @@
 
 #include <stdbool.h>
 #include <stdio.h>
-#include <stdlib.h>
 #include <string.h>
 
 enum { SHOWN_D = 5, SHOWN_B = 4096 }; /* the measures of what is seen at a glance */
@@ -16,9 +15,7 @@ static struct spread range_of(enum work work, unsigned mib, enum peer peer, bool
     struct spread all = NO_SPREAD;
     for (const struct result *row = next_row(NULL, work, work, mib); row != NULL; row = next_row(row, work, work, mib)) {
         struct spread one = ratio_of(row, peer_of(row, peer));
-        if (medians)
-            one.low = one.high = one.middle;
-        all = joined(all, one);
+        all = joined(all, medians ? middle_of(one) : one);
     }
     return all;
 }
@@ -113,13 +110,6 @@ static const char *processor(void)
     return name + 2;
 }
 
-/* The order of two numbers, for qsort. */
-static int rising(const void *a, const void *b)
-{
-    double l = *(const double *)a, r = *(const double *)b;
-    return (l > r) - (l < r);
-}
-
 /* Says how far the times of single passes are from the medians that the tables show. */
 static void point_spread(void)
 {
@@ -130,7 +120,7 @@ static void point_spread(void)
         if (r->variant != SAME_STRIPES)
             parts[n++] = r->times[k % run.passes] / time_of(r).middle;
     }
-    qsort(parts, n, sizeof parts[0], rising);
+    sort(parts, n);
     point("Spread: the time of a single pass is %.2f to %.2f times the median that is shown; nine of ten are %.2f to %.2f"
           " times it.", parts[0], parts[n - 1], parts[n / 20], parts[n - 1 - n / 20]);
 }

@@ -5,20 +5,13 @@
 #include <stdlib.h>
 #include <string.h>
 
-/* The order of two numbers, for qsort. */
-static int rising(const void *a, const void *b)
-{
-    double l = *(const double *)a, r = *(const double *)b;
-    return (l > r) - (l < r);
-}
-
 /* What a call of a variant takes where nothing else runs on the processor: the time that a tenth of
    its rounds stay below, since other load only adds to it. */
 static double clear_time(const struct line *line, enum variant v, unsigned rounds)
 {
     double times[MOST_ROUNDS];
     memcpy(times, line->times[v], rounds * sizeof times[0]);
-    qsort(times, rounds, sizeof times[0], rising);
+    sort(times, rounds);
     return times[rounds / 10];
 }
 

@@ -108,18 +108,11 @@ const struct result *beside(const struct result *row, enum variant v)
     return NULL;
 }
 
-/* The order of two numbers, for qsort. */
-static int rising(const void *a, const void *b)
-{
-    double l = *(const double *)a, r = *(const double *)b;
-    return (l > r) - (l < r);
-}
-
 /* The spread of the passes' figures, which it puts in order. */
 static struct spread spread_of(double figures[MOST_PASSES])
 {
     unsigned n = run.passes;
-    qsort(figures, n, sizeof figures[0], rising);
+    sort(figures, n);
     return (struct spread){figures[0], (figures[(n - 1) / 2] + figures[n / 2]) / 2, figures[n - 1]};
 }
 
@@ -148,6 +141,12 @@ struct spread ratio_of(const struct result *r, const struct result *other)
     for (unsigned n = 0; n < run.passes; n++)
         figures[n] = other->times[n] / r->times[n];
     return spread_of(figures);
+}
+
+/* The median alone, as a spread. */
+struct spread middle_of(struct spread s)
+{
+    return (struct spread){s.middle, s.middle, s.middle};
 }
 
 /* The least spread that has two within it; its median means nothing. */

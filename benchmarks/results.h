@@ -40,6 +40,9 @@ enum variant {
 /* Their names (names.c). */
 extern const char *const work_names[WORKS], *const variant_names[VARIANTS];
 
+/* Numbers put in rising order (order.c). */
+void sort(double *numbers, size_t count);
+
 /* What a call takes in each pass, in nanoseconds. */
 enum { MOST_PASSES = 16, MOST_RESULTS = 2048 };
 struct result {
@@ -74,6 +77,7 @@ struct spread {
 struct spread time_of(const struct result *r);
 struct spread speed_of(const struct result *r);
 struct spread ratio_of(const struct result *r, const struct result *other);
+struct spread middle_of(struct spread s);
 struct spread joined(struct spread a, struct spread b);
 #define NO_SPREAD ((struct spread){1e300, 0, 0}) /* joined with another, that one */
 

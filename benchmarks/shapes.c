@@ -9,10 +9,8 @@ static struct spread medians(enum work from, enum work to, unsigned mib, enum va
     struct spread all = NO_SPREAD;
     for (const struct result *row = next_row(NULL, from, to, mib); row != NULL; row = next_row(row, from, to, mib)) {
         const struct result *r = beside(row, v), *by = beside(row, other);
-        if (r == NULL || by == NULL)
-            continue;
-        double middle = ratio_of(r, by).middle;
-        all = joined(all, (struct spread){middle, middle, middle});
+        if (r != NULL && by != NULL)
+            all = joined(all, middle_of(ratio_of(r, by)));
     }
     return all;
 }

@@ -21,27 +21,29 @@ static void print_ratio(const struct result *row, enum variant v)
     printf(" %.2f (%.2f to %.2f) |", ratio.middle, ratio.low, ratio.high);
 }
 
-/* Prints parity beside ISA-L's, with the ratios of the passes. */
+/* Prints the rows of a work beside ISA-L's, with the ratios of the passes. */
+static void print_ratio_rows(enum work work, unsigned mib)
+{
+    for (const struct result *row = next_row(NULL, work, work, mib); row != NULL; row = next_row(row, work, work, mib)) {
+        printf("| %s | %u | %u |", work_names[work], row->d, row->b);
+        print_speed(row, OURS);
+        print_ratio(row, ISAL_SUMS);
+        print_ratio(row, SSE_SUMS);
+        printf("\n");
+    }
+}
+
+/* Prints the table of parity beside ISA-L's, where that was measured. */
 void print_ratios(void)
 {
-    static const enum work works[] = {PARITY, ALL_STRIPES};
     if (!has_isal())
         return;
     printf("## Parity beside ISA-L's\n\n");
     say("Speeds in GB/s, and this library's as a multiple of ISA-L's in the same pass: the median, and in brackets the lowest and"
         " the highest of the passes.");
     printf("| work | d | B | this library | pq_gen | ratio | pq_gen for SSE | ratio |\n|---|---|---|---|---|---|---|---|\n");
-    for (unsigned k = 0; k < 2; k++) {
-        unsigned mib = works[k] == PARITY ? 0 : DATA_MIB;
-        const struct result *row = NULL;
-        while ((row = next_row(row, works[k], works[k], mib)) != NULL) {
-            printf("| %s | %u | %u |", work_names[row->work], row->d, row->b);
-            print_speed(row, OURS);
-            print_ratio(row, ISAL_SUMS);
-            print_ratio(row, SSE_SUMS);
-            printf("\n");
-        }
-    }
+    print_ratio_rows(PARITY, 0);
+    print_ratio_rows(ALL_STRIPES, DATA_MIB);
     printf("\n");
 }
 
@@ -156,10 +158,8 @@ static struct spread full_list(void)
     struct spread all = NO_SPREAD;
     const struct result *row = NULL;
     while ((row = next_row(row, LOG_AGAIN, RESYNC, DATA_MIB)) != NULL)
-        if (row->listed == PLACES) {
-            double middle = ratio_of(beside(row, LIST_TEST), row).middle;
-            all = joined(all, (struct spread){middle, middle, middle});
-        }
+        if (row->listed == PLACES)
+            all = joined(all, middle_of(ratio_of(beside(row, LIST_TEST), row)));
     return all;
 }
 

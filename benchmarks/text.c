@@ -26,25 +26,29 @@ static void print_words(const char *mark, char *text)
     printf("\n");
 }
 
+/* Prints a text with a mark before it. */
+static void print_text(const char *mark, const char *format, va_list rest)
+{
+    char text[MOST_TEXT];
+    vsnprintf(text, sizeof text, format, rest);
+    print_words(mark, text);
+}
+
 /* A paragraph. */
 void say(const char *format, ...)
 {
-    char text[MOST_TEXT];
     va_list rest;
     va_start(rest, format);
-    vsnprintf(text, sizeof text, format, rest);
+    print_text("", format, rest);
     va_end(rest);
-    print_words("", text);
     printf("\n");
 }
 
 /* A point of a list. */
 void point(const char *format, ...)
 {
-    char text[MOST_TEXT];
     va_list rest;
     va_start(rest, format);
-    vsnprintf(text, sizeof text, format, rest);
+    print_text("- ", format, rest);
     va_end(rest);
-    print_words("- ", text);
 }

@@ -64,12 +64,15 @@ fn cut(trail: &[Pair], random: &mut Random) -> Shelf {
     shelf
 }
 
-/// A shelf of which the geometry and the log's flag alone are known, beside the book of its data blocks as they stand.
-fn as_found(mut shelf: Shelf) -> Pair {
+/// A shelf as a cut left it, beside the book of its data blocks as they stand. Its record is the one from before, or one
+/// of which the geometry and the log's flag alone are known.
+fn as_found(mut shelf: Shelf, random: &mut Random) -> Pair {
     let Record { measures: m, mut failed, .. } = shelf.record;
     let mut book = Book::fresh(m);
     failed[..m.log()].fill(0);
-    shelf.record = Record { measures: m, mode: 0, next: 0, listed: 0, failed };
+    if random.below(2) == 0 {
+        shelf.record = Record { measures: m, mode: 0, next: 0, listed: 0, failed };
+    }
     if failed[m.log()] != 0 {
         book.enter(Call::Fail(m.log()), &[]);
     }
@@ -99,8 +102,8 @@ fn accepted(pair: &mut Pair, call: Call, data: Buffer, stand: &mut Stand) -> Res
 }
 
 /// The full resync of a shelf as it is found. Fails unless it is accepted and stores parity alone.
-fn resynced(shelf: Shelf, stand: &mut Stand) -> Result<Pair, String> {
-    let mut pair = as_found(shelf);
+fn resynced(shelf: Shelf, stand: &mut Stand, random: &mut Random) -> Result<Pair, String> {
+    let mut pair = as_found(shelf, random);
     accepted(&mut pair, Call::FullResync, Buffer::empty(), stand)?;
     pair.holds()?;
     Ok(pair)
@@ -109,7 +112,7 @@ fn resynced(shelf: Shelf, stand: &mut Stand) -> Result<Pair, String> {
 /// The way back by a full resync. Fails unless each byte of every data block is one that it had on the trail, so that
 /// a block that was not written is as it was; and unless then as many members as may fail can be lost and rebuilt.
 fn by_full_resync(trail: &[Pair], stand: &mut Stand, random: &mut Random) -> Result<(), String> {
-    let mut pair = resynced(cut(trail, random), stand)?;
+    let mut pair = resynced(cut(trail, random), stand, random)?;
     let m = pair.shelf.record.measures;
     if let Some(address) = (0..m.d * m.s).find(|&address| !is_of(trail, address, block(&pair, address))) {
         return Err(format!("block {address} has bytes that it never had; the shelf: {}", pair.shelf));
@@ -146,9 +149,9 @@ fn note(member: usize, shelf: &mut Shelf, stand: &mut Stand) -> Result<(), Strin
 
 /// The way back where members fail besides: their failures with record and list from before the call, a rebuild, and a
 /// full resync. Hands back how many blocks are lost; none where the rebuild is withheld. Fails unless these are blocks
-/// of those members in the stripes that the call stores into, and unlisted ones where it is no write.
+/// of those members in the stripes that the calls store into, and unlisted ones where there is no write among them.
 fn with_failures(trail: &Trail, stand: &mut Stand, random: &mut Random) -> Result<Option<usize>, String> {
-    let Trail { states, call, stored } = trail;
+    let Trail { states, stored, has_write, .. } = trail;
     let mut shelf = Shelf { list: states[0].shelf.list.clone(), ..cut(states, random) };
     let count = 1 + pick(budget(&shelf.record), random);
     let failed = some_members(&states[0], count, random);
@@ -157,13 +160,15 @@ fn with_failures(trail: &Trail, stand: &mut Stand, random: &mut Random) -> Resul
     }
     let mut pair = Pair { shelf, book: states[0].book.clone() };
     pair.spoil();
-    if made(Call::Rebuild, &mut pair.shelf, stand)? == 14 {
-        return Ok(None);
+    match made(Call::Rebuild, &mut pair.shelf, stand)? {
+        0 => {}
+        14 if pair.shelf.record.failed[pair.shelf.record.measures.log()] != 0 => return Ok(None),
+        code => return Err(format!("the rebuild gets {code}; the shelf: {}", pair.shelf)),
     }
-    let (pair, mut lost) = (resynced(pair.shelf, stand)?, 0);
+    let (pair, mut lost) = (resynced(pair.shelf, stand, random)?, 0);
     let m = pair.shelf.record.measures;
     let may_be_lost = |address: usize| {
-        let is_open = call.blocks().is_some() || !states[0].book.marks().contains(&address);
+        let is_open = *has_write || !states[0].book.marks().contains(&address);
         is_open && stored.contains(&(address / m.d)) && failed.contains(&member_of(m, address))
     };
     for address in (0..m.d * m.s).filter(|&address| !is_of(states, address, block(&pair, address))) {
@@ -288,10 +293,12 @@ fn tried(kind: Kind, pair: &Pair, stand: &mut Stand, counts: &mut Counts, random
     let Record { measures: m, mode, failed, .. } = states[0].shelf.record;
     match kind {
         Write | Resync | FullResync | Several => by_full_resync(states, stand, random)?,
-        FailingWrite | FailingResync | FailingFullResync => match with_failures(&trail, stand, random)? {
-            Some(lost) => counts.lost[m.layout][m.parities - 1] += lost,
-            None => return Ok(()),
-        },
+        FailingWrite | FailingResync | FailingFullResync | FailingSeveral => {
+            match with_failures(&trail, stand, random)? {
+                Some(lost) => counts.lost[m.layout][m.parities - 1] += lost,
+                None => return Ok(()),
+            }
+        }
         Rebuild => {
             let [may_lose, differ] = repeated(states, stand, random)?;
             let sums = &mut counts.repeated[m.layout][m.parities - 1];

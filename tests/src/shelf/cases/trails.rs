@@ -25,6 +25,7 @@ pub enum Kind {
     FailingWrite,
     FailingResync,
     FailingFullResync,
+    FailingSeveral,
     Rebuild,
     FailingRebuild,
 }
@@ -32,8 +33,18 @@ pub enum Kind {
 use Kind::*;
 
 /// All kinds.
-pub const KINDS: [Kind; 9] =
-    [Write, Resync, FullResync, Several, FailingWrite, FailingResync, FailingFullResync, Rebuild, FailingRebuild];
+pub const KINDS: [Kind; 10] = [
+    Write,
+    Resync,
+    FullResync,
+    Several,
+    FailingWrite,
+    FailingResync,
+    FailingFullResync,
+    FailingSeveral,
+    Rebuild,
+    FailingRebuild,
+];
 
 impl Kind {
     /// Whether array members are failed when the way back is taken.
@@ -98,7 +109,12 @@ fn array_failed(pair: &Pair) -> bool {
 
 /// A right call of a kind, with its data.
 fn call_of(kind: Kind, m: Measures, random: &mut Random) -> (Call, Buffer) {
-    let kind = if kind == Several { [Write, Write, Resync, FullResync][pick(4, random)] } else { kind };
+    let kind = match kind {
+        Several | FailingSeveral if random.below(4) == 0 => return (Call::Start, Buffer::empty()),
+        Several => [Write, Write, Resync, FullResync][pick(4, random)],
+        FailingSeveral => [Write, Write, Resync][pick(3, random)],
+        _ => kind,
+    };
     match kind {
         Resync | FailingResync => (Call::Resync, Buffer::empty()),
         FullResync | FailingFullResync => (Call::FullResync, Buffer::empty()),
@@ -139,38 +155,41 @@ fn lead(kind: Kind, pair: &mut Pair, stand: &mut Stand, random: &mut Random) -> 
     Ok(())
 }
 
-/// A shelf before some calls and after each of them, the last call, and the stripes in which this one stores other
-/// bytes than there were. The data of a call is with the shelf after it.
+/// A shelf before some calls and after each of them, the last call, the stripes in which they store other bytes than
+/// there were, and whether one of them is a write. The data of a call is with the shelf after it.
 pub struct Trail {
     pub states: Vec<Pair>,
     pub call: Call,
     pub stored: BTreeSet<usize>,
+    pub has_write: bool,
 }
 
-/// The trail of a call of a kind, or of up to four calls. None where the shelf does not accept them, or the way back
-/// from such a cut can't be.
+/// The trail of a call of a kind, or of those of some calls that are accepted. None where none is, or the way back from
+/// such a cut can't be.
 pub fn trail(kind: Kind, pair: &Pair, stand: &mut Stand, random: &mut Random) -> Result<Option<Trail>, String> {
-    let mut trail = Trail { states: vec![pair.clone()], call: Call::Format, stored: BTreeSet::new() };
+    let mut trail = Trail { states: vec![pair.clone()], call: Call::Format, stored: BTreeSet::new(), has_write: false };
     lead(kind, &mut trail.states[0], stand, random)?;
     let mut next = trail.states[0].clone();
     let Record { measures: m, mode, failed, .. } = next.shelf.record;
     if !kind.can_be(m.parities, mode, failed[m.log()] != 0) {
         return Ok(None);
     }
-    for _ in 0..if kind == Several { 2 + pick(3, random) } else { 1 } {
+    for _ in 0..if matches!(kind, Several | FailingSeveral) { 2 + pick(5, random) } else { 1 } {
         let (call, data) = call_of(kind, m, random);
         if next.book.number(call, data.told) != 0 {
-            return Ok(None);
+            continue;
         }
         let stale = next.book.marks().iter().map(|mark| mark / m.d);
-        trail.stored = match (call, call.blocks()) {
-            (_, Some((address, count))) => (address / m.d..(address + count).div_ceil(m.d)).collect(),
-            (Call::Resync, None) => stale.take(1).collect(),
-            _ => stale.collect(),
-        };
+        match (call, call.blocks()) {
+            (_, Some((address, count))) => trail.stored.extend(address / m.d..(address + count).div_ceil(m.d)),
+            (Call::Start, None) => {}
+            (Call::Resync, None) => trail.stored.extend(stale.take(1)),
+            _ => trail.stored.extend(stale),
+        }
+        trail.has_write |= call.blocks().is_some();
         trail.call = call;
         next.step(call, data, stand)?;
         trail.states.push(next.clone());
     }
-    Ok(Some(trail))
+    Ok(Some(trail).filter(|trail| trail.states.len() > 1))
 }
