@@ -1,7 +1,8 @@
 /* The measuring program of the benchmark: this library's calls against ISA-L, plain C rows and memcpy, those that
-   change a list against one that only tests it, that one against a test in plain C, those of the rotating layout
-   against those of the fixed one, and those with one parity against those with two. It compares all results, then
-   times all variants in one interleaved pass and writes the times to a file:
+   change a list against one that only tests it, that one against a test in plain C, recovery with blocks listed
+   against that with none, calls of the rotating layout against those of the fixed one, and those with one parity
+   against those with two. It compares all results, then times all variants in one interleaved pass and writes the
+   times to a file:
      bench PASS PASSES FILE
    The first two arguments are for what it says on standard error. */
 #define _POSIX_C_SOURCE 200809L
@@ -13,7 +14,7 @@
 #include <time.h>
 
 #define SLICE_NS 1e6      /* the length of a slice */
-#define MOST_SECONDS 50.0 /* no round begins later than this */
+#define MOST_SECONDS 60.0 /* no round begins later than this */
 #define TELL_SECONDS 10.0 /* how often it says how long it has been at work */
 
 /* The next number of a fixed sequence (splitmix64). */
@@ -107,13 +108,13 @@ static void plan(struct line *line)
     }
 }
 
-/* Puts the variants in a random order. */
-static void shuffle(enum variant order[VARIANTS])
+/* The numbers below count in a random order. */
+static void shuffle(unsigned *order, unsigned count)
 {
-    for (unsigned k = 0; k < VARIANTS; k++) {
+    for (unsigned k = 0; k < count; k++) {
         unsigned other = (unsigned)(next_random() % (k + 1));
         order[k] = order[other];
-        order[other] = (enum variant)k;
+        order[other] = k;
     }
 }
 
@@ -122,10 +123,10 @@ static void shuffle(enum variant order[VARIANTS])
    that a slice would otherwise begin in the state of the variant before it. */
 static void time_line(struct line *line, unsigned round)
 {
-    enum variant order[VARIANTS] = {0};
-    shuffle(order);
+    unsigned order[VARIANTS] = {0};
+    shuffle(order, VARIANTS);
     for (unsigned k = 0; k < VARIANTS; k++) {
-        enum variant v = order[k];
+        enum variant v = (enum variant)order[k];
         if (!takes_part(line, v))
             continue;
         struct job job = job_of(line, v);
@@ -133,6 +134,23 @@ static void time_line(struct line *line, unsigned round)
         run_batch(v, &job, line->calls[v]);
         line->times[v][round] = time_batch(v, &job, line->calls[v]);
     }
+}
+
+/* Times all lines once. Those of the same recovery from stale stripes, which are compared with each other, come in
+   a random order: the first of them find less of what they work on in cache. */
+static void time_round(unsigned round)
+{
+    enum { ALIKE = SLOT_COUNTS * COUNTS };
+    unsigned order[ALIKE] = {0};
+    for (unsigned n = 0; n < STALE_LINES; n++)
+        time_line(&lines[n], round);
+    for (unsigned from = STALE_LINES; from < TEST_LINES; from += ALIKE) {
+        shuffle(order, ALIKE);
+        for (unsigned k = 0; k < ALIKE; k++)
+            time_line(&lines[from + order[k]], round);
+    }
+    for (unsigned n = TEST_LINES; n < LINES; n++)
+        time_line(&lines[n], round);
 }
 
 /* Times all lines in every round, so that a slow state of the machine that lasts for seconds falls
@@ -143,8 +161,7 @@ static unsigned time_rounds(double start, const char *pass, const char *passes)
     double from = now(), told = from;
     unsigned round = 0;
     for (; round < MOST_ROUNDS && now() - from < MOST_SECONDS * 1e9; round++) {
-        for (unsigned n = 0; n < LINES; n++)
-            time_line(&lines[n], round);
+        time_round(round);
         if (now() - told > TELL_SECONDS * 1e9) {
             told = now();
             fprintf(stderr, "benchmark: pass %s of %s, %.0f s\n", pass, passes, (told - start) / 1e9);

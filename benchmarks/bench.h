@@ -31,7 +31,7 @@ struct job {
     struct shelf_record record;
 
     /* With blocks listed: how many, the list as it is before each call that changes it, the block that is
-       written. */
+       written or fetched. */
     uint32_t listed;
     uint8_t *list_before;
     size_t address;
@@ -74,15 +74,18 @@ void turn_to(const struct job *job);
 double run_batch(enum variant v, const struct job *job, uint64_t calls);
 void fail(const struct job *job, const char *who, const char *what);
 
-/* The lines (jobs.c): by work, then by measures, and those with blocks listed by their number at
-   last; those of the test of the list are by d, then by slots, then by that number; those of a small array
-   by number in laid_works, then by measures; those of a stripe without Q by their own measures. They are
-   made, and each variant's results compared with what they must be. */
-enum { MEASURES = 4, COUNTS = 3, TEST_WIDTHS = 2, TEST_SLOTS = 3, LAID_WORKS = 9, LAID_COUNT = 1, P_MEASURES = 6 };
+/* The lines (jobs.c): by work, then by measures, and those of calls that change the list by the number of
+   blocks listed at last; those of recovery from stale stripes, all with the measures of that number, by work, then
+   by slots, then by blocks listed; those of the test of the list by d, then by slots, then by blocks listed; those
+   of a small array by number in laid_works, then by measures; those of a stripe without Q by their own
+   measures. They are made, and each variant's results compared with what they must be. */
+enum { MEASURES = 4, COUNTS = 3, SLOT_COUNTS = 3, STALE_MEASURES = 2, TEST_WIDTHS = 2, TEST_COUNTS = 4 };
+enum { LAID_WORKS = 9, LAID_COUNT = 1, P_MEASURES = 6 };
 enum {
     LIST_LINES = LIST_WORKS * MEASURES,
-    TEST_LINES = LIST_LINES + (TEST - LIST_WORKS) * MEASURES * COUNTS,
-    SMALL_LINES = TEST_LINES + TEST_WIDTHS * TEST_SLOTS * COUNTS,
+    STALE_LINES = LIST_LINES + (STALE_WORKS - LIST_WORKS) * MEASURES * COUNTS,
+    TEST_LINES = STALE_LINES + (TEST - STALE_WORKS) * SLOT_COUNTS * COUNTS,
+    SMALL_LINES = TEST_LINES + TEST_WIDTHS * SLOT_COUNTS * TEST_COUNTS,
     P_LINES = SMALL_LINES + LAID_WORKS * MEASURES,
     LINES = P_LINES + P_MEASURES
 };
@@ -92,23 +95,43 @@ void make_lines(void);
 void check(const struct line *line);
 void compare(const struct job *job, const char *who);
 
+/* What lines are made of and checked by (jobs.c): bytes at the start of a page; the members that a job's work
+   names; a shelf's log and list of so many slots; a line's shelf for another work. spoil makes bytes differ from
+   what they must be, spoil_made the blocks that a job's call makes in some stripes; hold ends the program unless
+   bytes are what they must be. */
+uint8_t *pages(size_t len);
+void name_members(struct job *job);
+void lend(struct job *job, uint32_t h);
+struct line with_work(const struct line *shelf, enum work work);
+void spoil(uint8_t *bytes, const uint8_t *sound, size_t len);
+void spoil_made(const struct job *job, uint32_t from_stripe, uint32_t to_stripe);
+void hold(const struct job *job, const char *who, const uint8_t *bytes, const uint8_t *sound, size_t len);
+
+/* The lines with blocks listed (list_jobs.c): those of calls that change the list, for a pair of measures; those of
+   recovery, with one number of blocks; those of the test. check_list_call checks a call that changes the list. */
+void make_list_lines(const struct line *shelf, unsigned m);
+void make_stale_lines(const struct line *shelf, unsigned n);
+void make_test_lines(void);
+void check_list_call(const struct job *job, enum variant v);
+
 /* The file of a pass (pass.c), which results.c reads. */
 void write_pass(const char *path, unsigned rounds);
 
 /* The shelf (shelf.c): what it is lent beside the array, and this library's calls. The log has
    records for the originals and the latest values of all that can be listed, and those of one write
-   more; the slots are the job's, SLOTS at most. format and start change the job's record; log_blocks
-   hands back the record after it. ours_passes tells whether the list gets another number than 3. */
-enum { LOG_RECORDS = 2 * PLACES + 2 };
+   more; the slots are the job's, SLOTS at most. format and start change the job's record; log_blocks and
+   resync hand back the record after it. ours_passes tells whether the list gets another number than 3. */
+enum { LOG_RECORDS = 2 * PLACES + 2, MOST_LIST = 4 * SLOTS + 16 * PLACES };
 size_t list_len(const struct job *job);
 void format(struct job *job);
 void start(struct job *job);
 void set_list(const struct job *job);
 struct shelf_record log_blocks(const struct job *job, size_t address, size_t count);
+struct shelf_record resync(const struct job *job);
 bool ours_passes(const struct job *job);
 void fetch_block(const struct job *job, struct shelf_record record, size_t address, uint8_t *to);
-call_of_job ours_write, ours_read, ours_fetch, ours_fetch_lost, ours_rebuild, ours_full_resync, ours_log, ours_resync,
-    ours_test;
+call_of_job ours_write, ours_read, ours_fetch, ours_fetch_lost, ours_fetch_one, ours_rebuild, ours_full_resync, ours_log,
+    ours_resync, ours_test;
 
 /* The layouts by C (layouts.c): a job in another one, a job of the fixed one without Q, the member that has
    a role in a stripe, where a member's block stands in an array; and the bytes put in the job's layout, as
@@ -142,10 +165,10 @@ struct rows {
 };
 extern const struct rows plain_rows, mask_rows;
 
-/* The test of the list in C (list.c): whether a job's list passes, and a call that ends the program where
-   it does not. */
+/* The list in C (list.c): whether a job's list passes, a call that ends the program where it does not, and the
+   logged write of a listed block. */
 bool list_passes(const struct job *job);
-call_of_job c_test;
+call_of_job c_test, c_log;
 
 /* Damaged lists (damage.c), which both tests must refuse, and how many there were. */
 extern unsigned damaged_lists;

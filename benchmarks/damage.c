@@ -47,10 +47,10 @@ static uint32_t slot_with(const struct job *job, unsigned places)
     return slot;
 }
 
-/* Where the word stands that ends the first chain. */
+/* Where the word stands that ends the first chain, which in an empty list is that of slot 0. */
 static size_t end_of_chain(const struct job *job)
 {
-    size_t n = slot_with(job, 1);
+    size_t n = slot_with(job, 1) % job->h;
     while (get(job, n) != SHELF_NONE)
         n = at(job, get(job, n), NEXT);
     return n;
@@ -184,20 +184,21 @@ static bool clear_ori(const struct job *job)
     return false;
 }
 
-static bool (*const faults[])(const struct job *) = {
-    swap_places, let_chain_fall, fill_first_unused, fill_last_unused, close_chain, leave_list, cut_chain,
-    swap_slots,  repeat_address, raise_address,     raise_ori,        raise_cur,   clear_both, clear_ori,
+enum { FAULTS = 14, EMPTY_FAULTS = 3 }; /* the first of them can be in an empty list */
+static bool (*const faults[FAULTS])(const struct job *) = {
+    fill_first_unused, fill_last_unused, leave_list,    swap_places, let_chain_fall, close_chain, cut_chain,
+    swap_slots,        repeat_address,   raise_address, raise_ori,   raise_cur,      clear_both,  clear_ori,
 };
 
 /* Holds the tests of the list to a job's list, which both let pass, and to its damaged ones, which both
    refuse. */
 void check_tests(const struct job *job)
 {
-    uint8_t good[4 * SLOTS + 16 * PLACES];
+    uint8_t good[MOST_LIST];
     memcpy(good, job->list, list_len(job));
     ours_test(job);
     c_test(job);
-    for (unsigned k = 0; k < sizeof faults / sizeof faults[0]; k++) {
+    for (unsigned k = 0; k < (job->listed == 0 ? EMPTY_FAULTS : FAULTS); k++) {
         if (!faults[k](job))
             continue;
         if (list_passes(job))

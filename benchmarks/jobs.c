@@ -1,5 +1,5 @@
-/* What is worked on: the lines' jobs with their bytes, and the test that each variant makes of them
-   what it must. */
+/* What is worked on: the lines' jobs with their bytes, but for those with blocks listed, and the test that each
+   variant makes of them what it must. */
 #include "bench.h"
 
 #include <stdio.h>
@@ -7,14 +7,9 @@
 #include <string.h>
 
 #define PAGE ((size_t)4096)
-#define TEST_STRIPES 4096 /* of a shelf whose list is tested; d times it is a multiple of all H */
 
 static const uint32_t measures[MEASURES][2] = {{5, 512}, {5, 4096}, {16, 512}, {16, 4096}};
 static const uint32_t p_measures[P_MEASURES][2] = {{3, 512}, {3, 4096}, {5, 512}, {5, 4096}, {16, 512}, {16, 4096}};
-static const uint32_t counts[COUNTS] = {16, 256, PLACES};
-
-static const uint32_t test_widths[TEST_WIDTHS] = {5, 16}, test_slots[TEST_SLOTS] = {SLOTS, 16, 1};
-static const uint32_t test_counts[COUNTS] = {64, 512, PLACES};
 
 /* The works that the layouts are compared in, and at last those that are only there in the fixed one. */
 const enum work laid_works[LAID_WORKS] = {FULL_RESYNC, WRITE, READ, FETCH, REBUILD_ONE, REBUILD_TWO,
@@ -23,7 +18,7 @@ const enum work laid_works[LAID_WORKS] = {FULL_RESYNC, WRITE, READ, FETCH, REBUI
 struct line lines[LINES];
 
 /* Bytes at the start of a page, all written once. */
-static uint8_t *pages(size_t len)
+uint8_t *pages(size_t len)
 {
     len = (len + PAGE - 1) / PAGE * PAGE;
     uint8_t *bytes = aligned_alloc(PAGE, len);
@@ -34,8 +29,14 @@ static uint8_t *pages(size_t len)
     return memset(bytes, 1, len);
 }
 
+/* Whether a work recovers from stale stripes, with two data disks failed. */
+static bool from_stale(enum work work)
+{
+    return work >= STALE_WORKS && work < TEST;
+}
+
 /* The members that a job's work makes or finds failed: one data disk, two, one and P or Q, or P and Q. */
-static void name_members(struct job *job)
+void name_members(struct job *job)
 {
     enum work w = job->work;
     job->x = job->d;
@@ -46,7 +47,7 @@ static void name_members(struct job *job)
         job->x = 2;
         job->y = w == REBUILD_WITH_P ? job->d : job->d + 1;
     }
-    if (w == TWO_BLOCKS || w == FETCH_TWO || w == REBUILD_TWO) {
+    if (w == TWO_BLOCKS || w == FETCH_TWO || w == REBUILD_TWO || from_stale(w)) {
         job->x = job->d == 5 ? 1 : 3;
         job->y = job->d == 5 ? 3 : 11;
     }
@@ -79,7 +80,7 @@ static struct line random_line(enum work work, const uint32_t m[2], uint32_t s, 
 }
 
 /* Lends a job's array a log and a list of so many slots, and makes a fresh shelf of them. */
-static void lend(struct job *job, uint32_t h)
+void lend(struct job *job, uint32_t h)
 {
     job->h = h;
     job->log = pages((size_t)LOG_RECORDS * job->b);
@@ -121,88 +122,20 @@ static struct line shelf_line(unsigned m, size_t bytes, uint8_t *copy)
 /* Whether a work is a rebuild. */
 static bool rebuilds(enum work work)
 {
-    return (work >= REBUILD_ONE && work <= REBUILD_PARITY) || work == REBUILD_WITH_P || work == REBUILD_WITH_Q;
+    return (work >= REBUILD_ONE && work <= REBUILD_PARITY) || work == REBUILD_WITH_P || work == REBUILD_WITH_Q ||
+           work == STALE_REBUILD;
 }
 
 /* The same shelf for another work, with the members failed that it names. */
-static struct line with_work(const struct line *shelf, enum work work)
+struct line with_work(const struct line *shelf, enum work work)
 {
     struct line line = *shelf;
     struct job *job = &line.job;
     job->work = work;
     name_members(job);
-    if (work == FETCH_ONE || work == FETCH_TWO || rebuilds(work))
+    if (work == FETCH_ONE || work == FETCH_TWO || rebuilds(work) || from_stale(work))
         job->record.failed[job->x] = job->record.failed[job->y] = true;
     return line;
-}
-
-/* The address that is listed as number k: they are spread over the stripes and over the slots. */
-static size_t address_of(const struct job *job, size_t k)
-{
-    return k * 1009 % ((size_t)job->d * job->s);
-}
-
-/* Makes a line of a shelf on which so many blocks are listed. The log's records above those that any
-   such shelf uses are left to the timed call. The rotating layout is timed with one number of blocks. */
-static void keep_listed(struct line *line, const struct line *shelf, enum work work, uint32_t count)
-{
-    *line = with_work(shelf, work);
-    line->rotating = count == counts[LAID_COUNT];
-    struct job *job = &line->job;
-    job->listed = count;
-    job->address = address_of(job, work == LOG_NEW ? count - 1 : count / 2);
-    job->record.next = 2 * PLACES;
-    job->list_before = memcpy(pages(list_len(job)), job->list, list_len(job));
-}
-
-/* Makes the lines with blocks listed, as the list of a shelf grows by one write after another. To
-   log a new block there is one listed less before the call. */
-static void list_lines(struct line *shelf, unsigned m)
-{
-    struct job *job = &shelf->job;
-    job->list = memcpy(pages(list_len(job)), job->list, list_len(job));
-    start(job);
-    for (uint32_t n = 0; n <= PLACES; n++) {
-        for (unsigned k = 0; k < (TEST - LIST_WORKS) * COUNTS; k++) {
-            enum work work = (enum work)(LIST_WORKS + k / COUNTS);
-            struct line *line = &lines[LIST_LINES + (k / COUNTS * MEASURES + m) * COUNTS + k % COUNTS];
-            if (n + (work == LOG_NEW) == counts[k % COUNTS])
-                keep_listed(line, shelf, work, counts[k % COUNTS]);
-        }
-        if (n < PLACES)
-            job->record = log_blocks(job, address_of(job, n), 1);
-    }
-}
-
-/* Lists so many blocks of a job's shelf, by writes of scattered stripes. A stripe is listed whole by a
-   reconstruction-write, and the d / 2 + 1 blocks written lack Ori; then about d blocks are listed by
-   read-modify-writes, a few in a stripe, and have both Ori and Cur; and so on. */
-static void list_blocks(struct job *job, uint32_t count)
-{
-    size_t d = job->d, left = count;
-    for (size_t k = 0; k < job->s && left > 0; k++) {
-        bool whole = (count - left) / d % 2 == 0 && left >= d;
-        size_t few = left < d / 4 ? left : d / 4;
-        size_t blocks = whole ? d / 2 + 1 : few;
-        job->record = log_blocks(job, k * 1009 % job->s * d + k % (d - blocks + 1), blocks);
-        left -= whole ? d : few;
-    }
-    if (left > 0 || job->record.listed != count)
-        fail(job, variant_names[OURS], "another number of blocks is listed");
-}
-
-/* Makes a line for the test of the list: a shelf of blocks of one byte, all zero. */
-static void test_line(struct line *line, uint32_t d, uint32_t h, uint32_t count)
-{
-    *line = (struct line){.job = {.work = TEST, .d = d, .b = 1, .s = TEST_STRIPES, .parities = 2, .listed = count}};
-    struct job *job = &line->job;
-    name_members(job);
-    job->len = (size_t)(d + 2) * job->s * job->b;
-    job->bytes = pages(job->len);
-    lend(job, h);
-    job->sound[SHELF_FIXED] = job->data = memcpy(pages(job->len), job->bytes, job->len);
-    start(job);
-    list_blocks(job, count);
 }
 
 /* Makes the lines of a small array for a pair of measures. */
@@ -231,18 +164,18 @@ void make_lines(void)
         for (unsigned w = 0; w < LIST_WORKS; w++)
             lines[w * MEASURES + m] =
                 w < ALL_STRIPES ? random_line((enum work)w, measures[m], 1, copy) : with_work(&shelf, (enum work)w);
-        list_lines(&shelf, m);
+        make_list_lines(&shelf, m);
+        for (unsigned n = 0; m == STALE_MEASURES && n < COUNTS; n++)
+            make_stale_lines(&shelf, n);
         small_lines(m, copy);
     }
-    for (unsigned k = 0; k < SMALL_LINES - TEST_LINES; k++)
-        test_line(&lines[TEST_LINES + k], test_widths[k / (TEST_SLOTS * COUNTS)], test_slots[k / COUNTS % TEST_SLOTS],
-                  test_counts[k % COUNTS]);
+    make_test_lines();
     for (unsigned k = 0; k < P_MEASURES; k++)
         lines[P_LINES + k] = p_line(p_measures[k], copy);
 }
 
 /* Makes bytes differ from what they must be. */
-static void spoil(uint8_t *bytes, const uint8_t *sound, size_t len)
+void spoil(uint8_t *bytes, const uint8_t *sound, size_t len)
 {
     for (size_t k = 0; k < len; k++)
         bytes[k] = (uint8_t)~sound[k];
@@ -256,10 +189,10 @@ static bool makes(const struct job *job, uint32_t member, uint32_t role)
     return job->work == WRITE || n == job->x || n == job->y;
 }
 
-/* Spoils the blocks that a job's call makes, or must not look at, in the first stripes, so many of them. */
-static void spoil_made(const struct job *job, uint32_t stripes)
+/* Spoils the blocks that a job's call makes, or must not look at, in the stripes from one up to another. */
+void spoil_made(const struct job *job, uint32_t from_stripe, uint32_t to_stripe)
 {
-    for (uint32_t t = 0; t < stripes; t++)
+    for (uint32_t t = from_stripe; t < to_stripe; t++)
         for (uint32_t i = 0; i < job->d + job->parities; i++) {
             uint32_t member = member_of(job, t, i);
             size_t from = offset_of(job, member, t);
@@ -269,7 +202,7 @@ static void spoil_made(const struct job *job, uint32_t stripes)
 }
 
 /* Ends the program unless bytes are what they must be. */
-static void hold(const struct job *job, const char *who, const uint8_t *bytes, const uint8_t *sound, size_t len)
+void hold(const struct job *job, const char *who, const uint8_t *bytes, const uint8_t *sound, size_t len)
 {
     if (memcmp(bytes, sound, len) != 0)
         fail(job, who, "the result differs");
@@ -281,45 +214,33 @@ void compare(const struct job *job, const char *who)
     hold(job, who, job->bytes, job->sound[job->laid == NULL ? SHELF_FIXED : *job->laid], job->len);
 }
 
-/* Holds what a variant makes over spoilt blocks to the sound bytes; a resync makes stripe 0. */
+/* Holds what a variant makes over spoilt blocks to the sound bytes, and the list to what it was. */
 static void check_made(const struct job *job, enum variant v)
 {
-    spoil_made(job, job->work == RESYNC ? 1 : job->s);
+    uint8_t list[MOST_LIST];
+    size_t len = job->list == NULL ? 0 : list_len(job);
+    if (len > 0)
+        memcpy(list, job->list, len);
+    spoil_made(job, 0, job->s);
     run_batch(v, job, 1);
     compare(job, variant_names[v]);
+    if (len > 0)
+        hold(job, variant_names[v], job->list, list, len);
 }
 
-/* Holds what a variant reads to the data, or to the blocks of disk x while the failed disks are spoilt. */
+/* Holds what a variant reads to the data, one block of it or the blocks of disk x, while failed disks are spoilt. */
 static void check_read(const struct job *job, enum variant v)
 {
     size_t member = (size_t)job->s * job->b;
-    bool lost = job->work == FETCH_ONE || job->work == FETCH_TWO;
-    const uint8_t *want = lost ? job->sound[job->layout] + job->x * member : job->data;
-    size_t len = lost ? member : job->d * member;
+    bool disk = job->work == FETCH_ONE || job->work == FETCH_TWO, one = job->work == STALE_BLOCK;
+    const uint8_t *want = disk ? job->sound[job->layout] + job->x * member : job->data + job->address * job->b;
+    size_t len = disk ? member : one ? job->b : job->d * member;
     spoil(job->copy, want, len);
-    if (lost)
-        spoil_made(job, job->s);
+    if (disk || from_stale(job->work))
+        spoil_made(job, 0, job->s);
     run_batch(v, job, 1);
     hold(job, variant_names[v], job->copy, want, len);
     memcpy(job->bytes, job->sound[job->layout], job->len);
-}
-
-/* Holds a logged block to the data: as it is fetched after the call while its disk is spoilt and failed. */
-static void check_logged(const struct job *job, enum variant v)
-{
-    uint8_t *block = block_at(job, job->address);
-    const uint8_t *want = job->data + job->address * job->b;
-    set_list(job);
-    struct shelf_record after = log_blocks(job, job->address, 1);
-    if (after.listed != job->listed)
-        fail(job, variant_names[v], "another number of blocks is listed");
-    compare(job, variant_names[v]);
-    spoil(block, want, job->b);
-    spoil(job->copy, want, job->b);
-    after.failed[(block - job->bytes) / offset_of(job, 1, 0)] = true;
-    fetch_block(job, after, job->address, job->copy);
-    hold(job, variant_names[v], job->copy, want, job->b);
-    memcpy(block, want, job->b);
 }
 
 /* Compares the results of all variants that have one: a copy of all members and a test of the list beside
@@ -327,7 +248,7 @@ static void check_logged(const struct job *job, enum variant v)
 void check(const struct line *line)
 {
     enum work work = line->job.work;
-    bool reads = work >= READ && work <= FETCH_TWO;
+    bool reads = (work >= READ && work <= FETCH_TWO) || work == STALE_FETCH || work == STALE_BLOCK;
     if (work == TEST) {
         check_tests(&line->job);
         return;
@@ -337,8 +258,8 @@ void check(const struct line *line)
         if (!takes_part(line, v) || ways[v].call[work] == copy_data || ways[v].call[work] == ours_test)
             continue;
         turn_to(&job);
-        if (work == LOG_AGAIN || work == LOG_NEW)
-            check_logged(&job, v);
+        if (work >= LIST_WORKS && work < STALE_WORKS)
+            check_list_call(&job, v);
         else if (reads)
             check_read(&job, v);
         else

@@ -1,5 +1,6 @@
-/* The peer in plain C for the test of the list: a walk over all chains that marks each place it comes to
-   in a bitmap and tests its words, and a pass over the unused places. It is compiled apart, by gcc -O3. */
+/* The peers in plain C for the test of the list, a walk over all chains that marks each place it comes to in a
+   bitmap and tests its words and a pass over the unused places, and for the logged write of a listed block. They are
+   compiled apart, by gcc -O3. */
 #include "bench.h"
 
 #include <string.h>
@@ -90,8 +91,8 @@ static bool others_unused(const struct list *l)
     return all == SHELF_NONE;
 }
 
-/* Whether a job's list passes. */
-bool list_passes(const struct job *job)
+/* A job's list. */
+static struct list list_of(const struct job *job)
 {
     const struct shelf_geometry *g = &job->record.geometry;
     struct list l = {.heads = job->list, .places = job->list + 4 * g->h};
@@ -101,6 +102,13 @@ bool list_passes(const struct job *job)
     l.e = (uint32_t)g->e;
     l.next = (uint32_t)job->record.next;
     l.listed = (uint32_t)job->record.listed;
+    return l;
+}
+
+/* Whether a job's list passes. */
+bool list_passes(const struct job *job)
+{
+    struct list l = list_of(job);
     return good_chains(&l) && others_unused(&l);
 }
 
@@ -109,4 +117,19 @@ void c_test(const struct job *job)
 {
     if (!list_passes(job))
         fail(job, variant_names[C_LIST_TEST], "a sound list did not pass");
+}
+
+/* Writes a job's listed block: tests the list, finds the block by its chain, and puts it in the next record of the
+   log, which becomes its Cur, and on its disk. */
+void c_log(const struct job *job)
+{
+    c_test(job);
+    struct list l = list_of(job);
+    const uint8_t *from = job->data + job->address * job->b;
+    uint32_t p = word(l.heads, job->address % l.h);
+    while (word(place_at(&l, p), ADDRESS) != job->address)
+        p = word(place_at(&l, p), NEXT);
+    memcpy(job->log + (size_t)l.next * job->b, from, job->b);
+    memcpy(job->list + (place_at(&l, p) - l.heads) + CUR * sizeof l.next, &l.next, sizeof l.next);
+    memcpy(block_at(job, job->address), from, job->b);
 }

@@ -185,6 +185,8 @@ int main(int argc, char **argv)
     print_stripes();
     print_shelf();
     print_lists();
+    print_stale();
+    print_tests();
     print_layouts();
     print_single();
     return 0;

@@ -8,11 +8,13 @@
 void say(const char *format, ...) __attribute__((format(printf, 1, 2)));
 void point(const char *format, ...) __attribute__((format(printf, 1, 2)));
 
-/* The tables (tables.c, shapes.c), each with its heading and what explains it. */
+/* The tables (tables.c, list_tables.c, shapes.c), each with its heading and what explains it. */
 void print_ratios(void);
 void print_stripes(void);
 void print_shelf(void);
 void print_lists(void);
+void print_stale(void);
+void print_tests(void);
 void print_layouts(void);
 void print_single(void);
 

@@ -56,8 +56,7 @@ static double mixed_time(const struct job *job, bool small, unsigned m, unsigned
 /* Writes a result. */
 static void put_result(FILE *file, const struct job *job, enum variant v, double ns)
 {
-    uint32_t h = job->listed == 0 ? 0 : job->h;
-    fprintf(file, "%u %u %u %u %u %u %u %.4f\n", job->work, v, job->d, job->b, job->s, h, job->listed, ns);
+    fprintf(file, "%u %u %u %u %u %u %u %.4f\n", job->work, v, job->d, job->b, job->s, job->h, job->listed, ns);
 }
 
 /* Writes the results of a line. */

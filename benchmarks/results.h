@@ -13,17 +13,18 @@
 enum { DATA_MIB = 16, SMALL_MIB = 1, SLOTS = 256, PLACES = 4096 };
 
 /* A stripe's works, those of a shelf over its whole array, two rebuilds that only the comparison of the
-   layouts needs, those of a shelf with blocks listed, the test of the list alone, and parity of a stripe
-   without Q. */
+   layouts needs, those that change a list, those that recover from stale stripes, the test of the list alone, and
+   parity of a stripe without Q. */
 enum work {
     PARITY, ONE_BLOCK, TWO_BLOCKS, ALL_STRIPES,
     WRITE, READ, FETCH, FETCH_ONE, FETCH_TWO, REBUILD_ONE, REBUILD_TWO, REBUILD_PARITY, FULL_RESYNC,
     REBUILD_WITH_P, REBUILD_WITH_Q,
-    LOG_AGAIN, LOG_NEW, RESYNC,
+    LOG_AGAIN, LOG_FIRST, LOG_MIDDLE, LOG_LAST, RESYNC, DROP,
+    STALE_REBUILD, STALE_FETCH, STALE_BLOCK,
     TEST,
     P_ALONE,
     WORKS,
-    SHELF_WORKS = WRITE, MIXED_WORKS = REBUILD_WITH_P, LIST_WORKS = LOG_AGAIN /* the first of a kind */
+    SHELF_WORKS = WRITE, LIST_WORKS = LOG_AGAIN, STALE_WORKS = STALE_REBUILD /* the first of a kind */
 };
 
 /* Who does a work: this library; ISA-L's pq_gen and xor_gen, by the code that it chooses and by that for SSE;
@@ -48,7 +49,7 @@ enum { MOST_PASSES = 16, MOST_RESULTS = 2048 };
 struct result {
     unsigned work, variant;
     uint32_t d, b, s;   /* data blocks in a stripe, bytes in a block, stripes */
-    uint32_t h, listed; /* slots, blocks listed; 0 where the list does not matter */
+    uint32_t h, listed; /* slots, 0 where there is no list; blocks listed */
     double times[MOST_PASSES];
 };
 

@@ -42,7 +42,7 @@ void set_list(const struct job *job)
     memcpy(job->list, job->list_before, list_len(job));
 }
 
-/* Writes blocks of a stripe, which the shelf logs. Hands back the record after it. */
+/* Writes blocks of a stripe in mode 1. Hands back the record after it. */
 struct shelf_record log_blocks(const struct job *job, size_t address, size_t count)
 {
     const uint8_t *data = job->data + address * job->b;
@@ -81,6 +81,12 @@ void ours_fetch_lost(const struct job *job)
         fetch_block(job, job->record, t * job->d + job->x, job->copy + t * job->b);
 }
 
+/* Reads the job's block. */
+void ours_fetch_one(const struct job *job)
+{
+    fetch_block(job, job->record, job->address, job->copy);
+}
+
 /* Fills the failed members in one call. */
 void ours_rebuild(const struct job *job)
 {
@@ -93,18 +99,25 @@ void ours_full_resync(const struct job *job)
     expect(job, shelf_full_resync(job->record, BUFFERS(job)).code, SHELF_OK);
 }
 
-/* Writes the job's block, which the shelf logs. */
+/* Writes the job's block, which the shelf logs where the log has room. */
 void ours_log(const struct job *job)
 {
     log_blocks(job, job->address, 1);
 }
 
-/* Makes the parity of the lowest stale stripe, which is 0. */
-void ours_resync(const struct job *job)
+/* Makes the parity of the lowest stale stripe, which is 0. Hands back the record after it. */
+struct shelf_record resync(const struct job *job)
 {
     struct shelf_resynced r = shelf_resync(job->record, BUFFERS(job));
     expect(job, r.code, SHELF_OK);
     expect(job, r.stripe, 0);
+    return r.shelf;
+}
+
+/* The same as a call to be timed. */
+void ours_resync(const struct job *job)
+{
+    resync(job);
 }
 
 /* A call that does no more than test the list: it is refused for the mode. */

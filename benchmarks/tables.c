@@ -1,4 +1,4 @@
-/* The tables of a stripe, of the shelf in the fixed layout and of its list, each with what explains it. */
+/* The tables of a stripe and of the shelf in the fixed layout with nothing listed, each with what explains it. */
 #include "page.h"
 
 #include <stdio.h>
@@ -123,62 +123,4 @@ void print_shelf(void)
         " and %.1f µs for 4096, while the peers test nothing.",
         time_of(beside(logged, LIST_TEST)).middle / 1e3, PLACES, logged->listed, fetch_time(512), fetch_time(4096));
     say("On a sound array both reads go through the same function, which the compiler lays out in each of them by itself.");
-}
-
-/* Prints the head of a table with blocks listed: the numbers listed in the first row. */
-static void print_listed_head(enum work work, unsigned mib, const char *by)
-{
-    uint32_t last = 0;
-    printf("| µs | d | %s |", by);
-    for (const struct result *row = next_row(NULL, work, work, mib); row->listed > last; row = next_row(row, work, work, mib)) {
-        last = row->listed;
-        printf(" %u listed |", last);
-    }
-    printf("\n|---|---|---|---|---|---|");
-}
-
-/* Prints a table of works with blocks listed, a row for each d and each B or H, a column for each number of blocks:
-   the time, and how many times that of a variant it is. */
-static void print_listed(enum work from, enum work to, unsigned mib, const char *by, enum variant peer)
-{
-    uint32_t last = UINT32_MAX;
-    print_listed_head(from, mib, by);
-    for (const struct result *row = next_row(NULL, from, to, mib); row != NULL; row = next_row(row, from, to, mib)) {
-        if (row->listed <= last)
-            printf("\n| %s | %u | %u |", work_names[row->work], row->d, *by == 'B' ? row->b : row->h);
-        last = row->listed;
-        printf(" %.1f (%.2f) |", time_of(row).middle / 1e3, ratio_of(beside(row, peer), row).middle);
-    }
-    printf("\n\n");
-}
-
-/* The least and the greatest of the medians by which a write or resync takes longer than the test, with all places used. */
-static struct spread full_list(void)
-{
-    struct spread all = NO_SPREAD;
-    const struct result *row = NULL;
-    while ((row = next_row(row, LOG_AGAIN, RESYNC, DATA_MIB)) != NULL)
-        if (row->listed == PLACES)
-            all = joined(all, middle_of(ratio_of(beside(row, LIST_TEST), row)));
-    return all;
-}
-
-/* Prints the tables of the calls with blocks listed and of the test of the list. */
-void print_lists(void)
-{
-    struct spread full = full_list();
-    printf("## Calls with blocks listed\n\n");
-    say("A call in mode 1, in µs; in brackets, how many times as long it takes as a call that only tests the list (`shelf_start`,"
-        " refused with 7), in the same state. The list has %d slots and %d places; it is set back before each call, which does not"
-        " count. A write is of one block, which is logged; if the block is not listed before it, it is the last of those counted."
-        " With all places used it takes %.1f to %.1f times as long as the test, since it makes all chains anew.",
-        SLOTS, PLACES, full.low, full.high);
-    print_listed(LOG_AGAIN, RESYNC, DATA_MIB, "B", LIST_TEST);
-    printf("## The test of the list\n\n");
-    say("The test alone (`shelf_start` in mode 1, refused with 7), in µs; in brackets, how many times as long it takes as a test of"
-        " the same rules in plain C (gcc %s -O3), a walk over the chains with a bitmap. The list, of H slots and %d places, is in"
-        " cache. About half of the blocks listed are in stripes listed whole by a reconstruction-write, where the d / 2 + 1 blocks"
-        " written lack Ori; the others have Ori and Cur. Before the timing both let every list pass, and refuse %u damaged ones.",
-        __VERSION__, PLACES, run.damaged_lists);
-    print_listed(TEST, TEST, 0, "H", C_LIST_TEST);
 }

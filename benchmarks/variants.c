@@ -77,7 +77,9 @@ const struct way ways[VARIANTS] = {
       [FETCH_TWO] = ours_fetch_lost, [REBUILD_ONE] = ours_rebuild, [REBUILD_TWO] = ours_rebuild,
       [REBUILD_PARITY] = ours_rebuild, [FULL_RESYNC] = ours_full_resync, [REBUILD_WITH_P] = ours_rebuild,
       [REBUILD_WITH_Q] = ours_rebuild,
-      [LOG_AGAIN] = ours_log, [LOG_NEW] = ours_log, [RESYNC] = ours_resync, [TEST] = ours_test,
+      [LOG_AGAIN] = ours_log, [LOG_FIRST] = ours_log, [LOG_MIDDLE] = ours_log, [LOG_LAST] = ours_log,
+      [RESYNC] = ours_resync, [DROP] = ours_log, [STALE_REBUILD] = ours_rebuild, [STALE_FETCH] = ours_fetch,
+      [STALE_BLOCK] = ours_fetch_one, [TEST] = ours_test,
       [P_ALONE] = ours_parity}},
 #ifdef WITH_ISAL
     [ISAL_SUMS] = {SHELF_FIXED, false, SUMS_OF(isal)},
@@ -94,15 +96,17 @@ const struct way ways[VARIANTS] = {
      {[WRITE] = ours_write, [REBUILD_ONE] = ours_rebuild, [FULL_RESYNC] = ours_full_resync}},
     [C_FIXED] = {SHELF_FIXED, false,
      {[WRITE] = c_write, [READ] = c_read, [FETCH] = c_read, [REBUILD_ONE] = c_rebuild, [REBUILD_TWO] = c_rebuild_two,
-      [FULL_RESYNC] = c_full_resync}},
+      [FULL_RESYNC] = c_full_resync, [LOG_AGAIN] = c_log}},
     [ROTATING] = {SHELF_ROTATING, false,
      {[WRITE] = ours_write, [READ] = ours_read, [FETCH] = ours_fetch, [REBUILD_ONE] = ours_rebuild,
-      [REBUILD_TWO] = ours_rebuild, [FULL_RESYNC] = ours_full_resync, [LOG_AGAIN] = ours_log, [LOG_NEW] = ours_log,
-      [RESYNC] = ours_resync}},
+      [REBUILD_TWO] = ours_rebuild, [FULL_RESYNC] = ours_full_resync, [LOG_AGAIN] = ours_log,
+      [LOG_MIDDLE] = ours_log, [RESYNC] = ours_resync}},
     [C_ROTATING] = {SHELF_ROTATING, false,
      {[WRITE] = c_write, [READ] = c_read, [FETCH] = c_read, [REBUILD_ONE] = c_rebuild, [FULL_RESYNC] = c_full_resync}},
     [C_LIST_TEST] = {SHELF_FIXED, false, {[TEST] = c_test}},
-    [LIST_TEST] = {SHELF_FIXED, false, {[LOG_AGAIN] = ours_test, [LOG_NEW] = ours_test, [RESYNC] = ours_test}},
+    [LIST_TEST] = {SHELF_FIXED, false,
+     {[LOG_AGAIN] = ours_test, [LOG_FIRST] = ours_test, [LOG_MIDDLE] = ours_test, [LOG_LAST] = ours_test,
+      [RESYNC] = ours_test, [DROP] = ours_test, [STALE_BLOCK] = ours_test}},
 };
 
 /* Whether a variant is timed on a line. */

@@ -29,8 +29,10 @@ pub fn perform(
     list: &mut [u8],
     bytes: &mut [u8],
 ) -> Outcome
-    requires { ⌜ (fits (shelf .geometry) ≡ true) × (length (now bytes) ≡ 32768) ⌝ }
-    ensures { λ r. ⌜ Performed request (lent shelf (now (array .entry)) (now (log .entry)) (now (list .entry))) (r .code) (r .first) (lent (r .shelf) (now (array .exit)) (now (log .exit)) (now (list .exit))) ⌝ }
+    requires { ⌜ fits (shelf .geometry) ≡ true ⌝ }
+    requires { ⌜ length (now bytes) ≡ 32768 ⌝ }
+    ensures { λ r. ⌜ Performed request (lent shelf (now (array .entry)) (now (log .entry)) (now (list .entry))) (r .code) (r .first)
+        (lent (r .shelf) (now (array .exit)) (now (log .exit)) (now (list .exit))) ⌝ }
 {
     match request {
         Request::Start => told(shelf::shelf_start(shelf, array, log, list)),
@@ -70,7 +72,9 @@ fn told(a: shelf::Answer) -> Outcome
 
 // A resync; the stripe that it tells is not written.
 fn resync(shelf: Shelf, array: &mut [u8], log: &[u8], list: &mut [u8]) -> Outcome
-    ensures { λ r. ⌜ Answered (lent shelf (now (array .entry)) (now (log .entry)) (now (list .entry))) resync (r .code) (lent (r .shelf) (now (array .exit)) (now (log .entry)) (now (list .exit))) × (r .first ≡ 0) ⌝ }
+    ensures { λ r. ⌜ Answered (lent shelf (now (array .entry)) (now (log .entry)) (now (list .entry))) resync (r .code)
+        (lent (r .shelf) (now (array .exit)) (now (log .entry)) (now (list .exit))) ⌝ }
+    ensures { λ r. ⌜ r .first ≡ 0 ⌝ }
 {
     let a = shelf::shelf_resync(shelf, array, log, list);
     let s = a.shelf;
@@ -93,8 +97,11 @@ fn write_fill(
     list: &mut [u8],
     bytes: &mut [u8],
 ) -> Outcome
-    requires { ⌜ (fits (shelf .geometry) ≡ true) × (length (now bytes) ≡ 32768) ⌝ }
-    ensures { λ r. ⌜ Answered (lent shelf (now (array .entry)) (now (log .entry)) (now (list .entry))) (write address count (replicate (count * shelf .geometry .b) v)) (r .code) (lent (r .shelf) (now (array .exit)) (now (log .exit)) (now (list .exit))) × (r .first ≡ 0) ⌝ }
+    requires { ⌜ fits (shelf .geometry) ≡ true ⌝ }
+    requires { ⌜ length (now bytes) ≡ 32768 ⌝ }
+    ensures { λ r. ⌜ Answered (lent shelf (now (array .entry)) (now (log .entry)) (now (list .entry)))
+        (write address count (replicate (count * shelf .geometry .b) v)) (r .code) (lent (r .shelf) (now (array .exit)) (now (log .exit)) (now (list .exit))) ⌝ }
+    ensures { λ r. ⌜ r .first ≡ 0 ⌝ }
 {
     let g = shelf.geometry;
     let n = room::data_length(count, g.b, bytes.len());
@@ -113,8 +120,11 @@ fn read_first(
     list: &[u8],
     bytes: &mut [u8],
 ) -> Outcome
-    requires { ⌜ (fits (shelf .geometry) ≡ true) × (length (now bytes) ≡ 32768) ⌝ }
-    ensures { λ r. ⌜ Answered (lent shelf (now (array .entry)) (now (log .entry)) (now (list .entry))) (readCall recovering address count (count * shelf .geometry .b)) (r .code) (lent (r .shelf) (now (array .entry)) (now (log .entry)) (now (list .entry))) × (r .first ≡ firstRead (r .code) (handed recovering (lent shelf (now (array .entry)) (now (log .entry)) (now (list .entry))) address count)) ⌝ }
+    requires { ⌜ fits (shelf .geometry) ≡ true ⌝ }
+    requires { ⌜ length (now bytes) ≡ 32768 ⌝ }
+    ensures { λ r. ⌜ Answered (lent shelf (now (array .entry)) (now (log .entry)) (now (list .entry)))
+        (readCall recovering address count (count * shelf .geometry .b)) (r .code) (lent (r .shelf) (now (array .entry)) (now (log .entry)) (now (list .entry))) ⌝ }
+    ensures { λ r. ⌜ r .first ≡ firstRead (r .code) (handed recovering (lent shelf (now (array .entry)) (now (log .entry)) (now (list .entry))) address count) ⌝ }
 {
     let g = shelf.geometry;
     let n = room::data_length(count, g.b, bytes.len());
@@ -147,7 +157,9 @@ fn read_into(
     log: &[u8],
     list: &[u8],
 ) -> shelf::Answer
-    ensures { λ a. ⌜ Answered (lent shelf (now (array .entry)) (now (log .entry)) (now (list .entry))) (readCall recovering address count (length (now (out .entry)))) (a .code) (lent (a .shelf) (now (array .entry)) (now (log .entry)) (now (list .entry))) × (a .code ≡ 0 → now (out .exit) ≡ handed recovering (lent shelf (now (array .entry)) (now (log .entry)) (now (list .entry))) address count) ⌝ }
+    ensures { λ a. ⌜ Answered (lent shelf (now (array .entry)) (now (log .entry)) (now (list .entry)))
+        (readCall recovering address count (length (now (out .entry)))) (a .code) (lent (a .shelf) (now (array .entry)) (now (log .entry)) (now (list .entry))) ⌝ }
+    ensures { λ a. ⌜ (a .code ≡ 0 → now (out .exit) ≡ handed recovering (lent shelf (now (array .entry)) (now (log .entry)) (now (list .entry))) address count) ⌝ }
 {
     if recovering {
         return shelf::shelf_fetch(shelf, address, count, out, array, log, list);

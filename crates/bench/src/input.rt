@@ -13,7 +13,9 @@ pub struct Taken {
 
 // Takes the bytes of the line that is begun, from an index of the input on, up to its newline or the end of the input.
 pub fn hold(line: &mut [u8], held: usize, input: &[u8], from: usize) -> Taken
-    requires { ⌜ (length (now line) ≡ 128) × ((held ≤ 129) × (from ≤ length (now input))) ⌝ }
+    requires { ⌜ length (now line) ≡ 128 ⌝ }
+    requires { ⌜ held ≤ 129 ⌝ }
+    requires { ⌜ from ≤ length (now input) ⌝ }
     ensures { λ r. ⌜ Holds (now (line .entry)) held (now (input .entry)) from (now (line .exit)) r ⌝ }
 {
     let mut n = held;

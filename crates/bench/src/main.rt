@@ -45,7 +45,9 @@ fn run(
     bytes: &mut [u8],
     out: &mut [u8],
 )
-    requires { ⌜ ((length (now input) ≡ 512) × (length (now line) ≡ 128)) × (BufferLengths (now array) (now log) (now list) (now bytes) × (length (now out) ≡ 65536)) ⌝ }
+    requires { ⌜ (length (now input) ≡ 512) × (length (now line) ≡ 128) ⌝ }
+    requires { ⌜ BufferLengths (now array) (now log) (now list) (now bytes) ⌝ }
+    requires { ⌜ length (now out) ≡ 65536 ⌝ }
 {
     write_columns(out);
     let mut session = session::opened();

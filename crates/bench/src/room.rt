@@ -31,7 +31,8 @@ pub fn fits(g: Geometry) -> bool
 // The bytes of a shelf's array.
 pub fn array_length(g: Geometry) -> usize
     requires { ⌜ InRange g ⌝ }
-    ensures { λ r. ⌜ (r ≡ arrayLength g) × (r ≤ 4831838208) ⌝ }
+    ensures { λ r. ⌜ r ≡ arrayLength g ⌝ }
+    ensures { λ r. ⌜ r ≤ 4831838208 ⌝ }
 {
     g.array_members() * g.s * g.b
 }
@@ -39,7 +40,8 @@ pub fn array_length(g: Geometry) -> usize
 // The bytes of its log.
 pub fn log_length(g: Geometry) -> usize
     requires { ⌜ InRange g ⌝ }
-    ensures { λ r. ⌜ (r ≡ logLength g) × (r ≤ 268435456) ⌝ }
+    ensures { λ r. ⌜ r ≡ logLength g ⌝ }
+    ensures { λ r. ⌜ r ≤ 268435456 ⌝ }
 {
     g.l * g.b
 }
@@ -47,14 +49,16 @@ pub fn log_length(g: Geometry) -> usize
 // The bytes of its list.
 pub fn list_length(g: Geometry) -> usize
     requires { ⌜ InRange g ⌝ }
-    ensures { λ r. ⌜ (r ≡ listLength g) × (r ≤ 66560) ⌝ }
+    ensures { λ r. ⌜ r ≡ listLength g ⌝ }
+    ensures { λ r. ⌜ r ≤ 66560 ⌝ }
 {
     4 * g.h + 16 * g.e
 }
 
 // How many bytes of n are lent as the data of count blocks of b bytes: all that they take, or none where there is no room for them.
 pub fn data_length(count: usize, b: usize, n: usize) -> usize
-    ensures { λ r. ⌜ (r ≡ dataLength count b n) × (r ≤ n) ⌝ }
+    ensures { λ r. ⌜ r ≡ dataLength count b n ⌝ }
+    ensures { λ r. ⌜ r ≤ n ⌝ }
 {
     if b == 0 {
         return 0;

@@ -26,7 +26,9 @@ pub fn take_line(
     bytes: &mut [u8],
     out: &mut [u8],
 ) -> Session
-    requires { ⌜ BufferLengths (now array) (now log) (now list) (now bytes) × (ReadyAt (from .stage) (from .shelf .geometry) × (length (now out) ≡ 128)) ⌝ }
+    requires { ⌜ BufferLengths (now array) (now log) (now list) (now bytes) ⌝ }
+    requires { ⌜ ReadyAt (from .stage) (from .shelf .geometry) ⌝ }
+    requires { ⌜ length (now out) ≡ 128 ⌝ }
     ensures { λ r. ⌜ Taking (Takes (now (line .entry)) (from .stage) (lentParts (from .shelf) (now (array .entry)) (now (log .entry)) (now (list .entry)))) r (lentParts (r .shelf) (now (array .exit)) (now (log .exit)) (now (list .exit))) (now (out .exit)) ⌝ }
 {
     let stage = from.stage;
@@ -61,8 +63,10 @@ fn open(
     list: &mut [u8],
     out: &mut [u8],
 ) -> Session
-    requires { ⌜ ShelfLengths (now array) (now log) (now list) × (length (now out) ≡ 128) ⌝ }
-    ensures { λ r. ⌜ Taking (Opens (now (line .entry)) (lentParts (from .shelf) (now (array .entry)) (now (log .entry)) (now (list .entry)))) r (lentParts (r .shelf) (now (array .exit)) (now (log .exit)) (now (list .exit))) (now (out .exit)) ⌝ }
+    requires { ⌜ ShelfLengths (now array) (now log) (now list) ⌝ }
+    requires { ⌜ length (now out) ≡ 128 ⌝ }
+    ensures { λ r. ⌜ Taking (Opens (now (line .entry)) (lentParts (from .shelf) (now (array .entry)) (now (log .entry)) (now (list .entry)))) r
+        (lentParts (r .shelf) (now (array .exit)) (now (log .exit)) (now (list .exit))) (now (out .exit)) ⌝ }
 {
     let g = geometry_of(line);
     if !room::fits(g) {
@@ -116,7 +120,8 @@ fn geometry_of(line: &[u8]) -> Geometry
 
 // A fresh shelf, in as many bytes of each buffer as its geometry takes.
 fn format(g: Geometry, array: &mut [u8], log: &mut [u8], list: &mut [u8]) -> Shelf
-    requires { ⌜ (fits g ≡ true) × ShelfLengths (now array) (now log) (now list) ⌝ }
+    requires { ⌜ fits g ≡ true ⌝ }
+    requires { ⌜ ShelfLengths (now array) (now log) (now list) ⌝ }
     ensures { λ r. ⌜ lentParts r (now (array .exit)) (now (log .exit)) (now (list .exit)) ≡ formatted g ⌝ }
 {
     let a = room::array_length(g);
@@ -143,8 +148,11 @@ fn answer(
     bytes: &mut [u8],
     out: &mut [u8],
 ) -> Session
-    requires { ⌜ (fits (from .shelf .geometry) ≡ true) × (BufferLengths (now array) (now log) (now list) (now bytes) × (length (now out) ≡ 128)) ⌝ }
-    ensures { λ r. ⌜ Taking (Answers (now (line .entry)) (lentParts (from .shelf) (now (array .entry)) (now (log .entry)) (now (list .entry)))) r (lentParts (r .shelf) (now (array .exit)) (now (log .exit)) (now (list .exit))) (now (out .exit)) ⌝ }
+    requires { ⌜ fits (from .shelf .geometry) ≡ true ⌝ }
+    requires { ⌜ BufferLengths (now array) (now log) (now list) (now bytes) ⌝ }
+    requires { ⌜ length (now out) ≡ 128 ⌝ }
+    ensures { λ r. ⌜ Taking (Answers (now (line .entry)) (lentParts (from .shelf) (now (array .entry)) (now (log .entry)) (now (list .entry)))) r
+        (lentParts (r .shelf) (now (array .exit)) (now (log .exit)) (now (list .exit))) (now (out .exit)) ⌝ }
 {
     let request = lines::requests::read_request(line);
     let shelf = from.shelf;
@@ -168,8 +176,10 @@ fn lend(
     list: &mut [u8],
     bytes: &mut [u8],
 ) -> calls::Outcome
-    requires { ⌜ (fits (shelf .geometry) ≡ true) × BufferLengths (now array) (now log) (now list) (now bytes) ⌝ }
-    ensures { λ r. ⌜ Performed request (lentParts shelf (now (array .entry)) (now (log .entry)) (now (list .entry))) (r .code) (r .first) (lentParts (r .shelf) (now (array .exit)) (now (log .exit)) (now (list .exit))) ⌝ }
+    requires { ⌜ fits (shelf .geometry) ≡ true ⌝ }
+    requires { ⌜ BufferLengths (now array) (now log) (now list) (now bytes) ⌝ }
+    ensures { λ r. ⌜ Performed request (lentParts shelf (now (array .entry)) (now (log .entry)) (now (list .entry))) (r .code) (r .first)
+        (lentParts (r .shelf) (now (array .exit)) (now (log .exit)) (now (list .exit))) ⌝ }
 {
     let g = shelf.geometry;
     let a = room::array_length(g);

@@ -67,8 +67,13 @@ pub fn feed(
     bytes: &mut [u8],
     out: &mut [u8],
 ) -> Session
-    requires { ⌜ (length (now line) ≡ 128) × (BufferLengths (now array) (now log) (now list) (now bytes) × (Ready from (now line) × ((length (now input) ≤ 512) × (length (now out) ≡ 65536)))) ⌝ }
-    ensures { λ r. ⌜ Feeds (now (input .entry)) from (now (line .entry)) (lentParts (from .shelf) (now (array .entry)) (now (log .entry)) (now (list .entry))) r (now (line .exit)) (lentParts (r .shelf) (now (array .exit)) (now (log .exit)) (now (list .exit))) (now (out .exit)) ⌝ }
+    requires { ⌜ length (now line) ≡ 128 ⌝ }
+    requires { ⌜ BufferLengths (now array) (now log) (now list) (now bytes) ⌝ }
+    requires { ⌜ Ready from (now line) ⌝ }
+    requires { ⌜ length (now input) ≤ 512 ⌝ }
+    requires { ⌜ length (now out) ≡ 65536 ⌝ }
+    ensures { λ r. ⌜ Feeds (now (input .entry)) from (now (line .entry))
+        (lentParts (from .shelf) (now (array .entry)) (now (log .entry)) (now (list .entry))) r (now (line .exit)) (lentParts (r .shelf) (now (array .exit)) (now (log .exit)) (now (list .exit))) (now (out .exit)) ⌝ }
 {
     let mut session = from;
     let mut held = from.held;
@@ -136,8 +141,12 @@ pub fn close(
     bytes: &mut [u8],
     out: &mut [u8],
 ) -> usize
-    requires { ⌜ (length (now line) ≡ 128) × (BufferLengths (now array) (now log) (now list) (now bytes) × (Ready from (now line) × (256 ≤ length (now out)))) ⌝ }
-    ensures { λ r. ⌜ Closes from (now (line .entry)) (lentParts (from .shelf) (now (array .entry)) (now (log .entry)) (now (list .entry))) (take r (now (out .exit))) × (r ≤ length (now (out .exit))) ⌝ }
+    requires { ⌜ length (now line) ≡ 128 ⌝ }
+    requires { ⌜ BufferLengths (now array) (now log) (now list) (now bytes) ⌝ }
+    requires { ⌜ Ready from (now line) ⌝ }
+    requires { ⌜ 256 ≤ length (now out) ⌝ }
+    ensures { λ r. ⌜ Closes from (now (line .entry)) (lentParts (from .shelf) (now (array .entry)) (now (log .entry)) (now (list .entry))) (take r (now (out .exit))) ⌝ }
+    ensures { λ r. ⌜ r ≤ length (now (out .exit)) ⌝ }
 {
     let last = take_last(from, line, array, log, list, bytes, &mut out[..128]);
     let at = last.len;
@@ -156,8 +165,13 @@ fn take_last(
     bytes: &mut [u8],
     out: &mut [u8],
 ) -> Session
-    requires { ⌜ (length (now line) ≡ 128) × (BufferLengths (now array) (now log) (now list) (now bytes) × (Ready from (now line) × (length (now out) ≡ 128))) ⌝ }
-    ensures { λ r. ⌜ Ends from (now (line .entry)) (lentParts (from .shelf) (now (array .entry)) (now (log .entry)) (now (list .entry))) (r .stage) (lentParts (r .shelf) (now (array .exit)) (now (log .exit)) (now (list .exit))) (take (r .len) (now (out .exit))) × (r .len ≤ 128) ⌝ }
+    requires { ⌜ length (now line) ≡ 128 ⌝ }
+    requires { ⌜ BufferLengths (now array) (now log) (now list) (now bytes) ⌝ }
+    requires { ⌜ Ready from (now line) ⌝ }
+    requires { ⌜ length (now out) ≡ 128 ⌝ }
+    ensures { λ r. ⌜ Ends from (now (line .entry)) (lentParts (from .shelf) (now (array .entry)) (now (log .entry)) (now (list .entry))) (r .stage)
+        (lentParts (r .shelf) (now (array .exit)) (now (log .exit)) (now (list .exit))) (take (r .len) (now (out .exit))) ⌝ }
+    ensures { λ r. ⌜ r .len ≤ 128 ⌝ }
 {
     let n = from.held;
     if n == 0 {
@@ -170,7 +184,8 @@ fn take_last(
 // Puts format's refusal at the start of out where the input ends before the measures, and answers how long it is.
 fn put_closing(stage: Stage, out: &mut [u8]) -> usize
     requires { ⌜ length (now out) ≡ 128 ⌝ }
-    ensures { λ r. ⌜ (take r (now (out .exit)) ≡ closing stage) × (r ≤ 128) ⌝ }
+    ensures { λ r. ⌜ take r (now (out .exit)) ≡ closing stage ⌝ }
+    ensures { λ r. ⌜ r ≤ 128 ⌝ }
 {
     match stage {
         Stage::MeasureNames => lines::answers::put_format(out, 1),

@@ -42,7 +42,8 @@ pub fn inv(a: u8) -> u8
 // Fills the first 256 bytes of t with c times each byte. The rest of t stays.
 pub fn fill_multiples(c: u8, t: &mut [u8])
     requires { ⌜ 256 ≤ length (now t) ⌝ }
-    ensures { λ _. ⌜ Multiples c (now (t .exit)) × SameFrom 256 (now (t .entry)) (now (t .exit)) ⌝ }
+    ensures { λ _. ⌜ Multiples c (now (t .exit)) ⌝ }
+    ensures { λ _. ⌜ SameFrom 256 (now (t .entry)) (now (t .exit)) ⌝ }
 {
     let powers = tables::POWERS;
     let logarithms = tables::LOGARITHMS;
@@ -55,8 +56,11 @@ pub fn fill_multiples(c: u8, t: &mut [u8])
 
 // The n below 255 with 2 to the power n equal to a.
 fn logarithm(logarithms: &[u8], a: u8) -> usize
-    requires { ⌜ (length (now logarithms) ≡ 256) × (Logarithms (now logarithms) × (0 < a)) ⌝ }
-    ensures { λ r. ⌜ (r < 255) × (pow2 r ≡ a) ⌝ }
+    requires { ⌜ length (now logarithms) ≡ 256 ⌝ }
+    requires { ⌜ Logarithms (now logarithms) ⌝ }
+    requires { ⌜ 0 < a ⌝ }
+    ensures { λ r. ⌜ r < 255 ⌝ }
+    ensures { λ r. ⌜ pow2 r ≡ a ⌝ }
 {
     logarithms[a as usize] as usize
 }
@@ -64,7 +68,10 @@ fn logarithm(logarithms: &[u8], a: u8) -> usize
 // The product of a and b: the power of 2 to the sum of their logarithms, counted round 255. The
 // tables are lent, since a constant that is indexed is copied first.
 fn product(powers: &[u8], logarithms: &[u8], a: u8, b: u8) -> u8
-    requires { ⌜ (length (now powers) ≡ 256) × ((length (now logarithms) ≡ 256) × (Powers (now powers) × Logarithms (now logarithms))) ⌝ }
+    requires { ⌜ length (now powers) ≡ 256 ⌝ }
+    requires { ⌜ length (now logarithms) ≡ 256 ⌝ }
+    requires { ⌜ Powers (now powers) ⌝ }
+    requires { ⌜ Logarithms (now logarithms) ⌝ }
     ensures { λ r. ⌜ r ≡ times a b ⌝ }
 {
     if a == 0 {

@@ -56,7 +56,9 @@ pub fn put_columns(out: &mut [u8]) -> usize
 
 // The name of a request; `bad` of a line that can't be read.
 fn name_of(request: requests::Request) -> Name
-    ensures { λ r. ⌜ (take (r .len) (r .bytes) ≡ nameOf request) × ((r .len ≤ length (r .bytes)) × (r .len ≤ 7)) ⌝ }
+    ensures { λ r. ⌜ take (r .len) (r .bytes) ≡ nameOf request ⌝ }
+    ensures { λ r. ⌜ r .len ≤ length (r .bytes) ⌝ }
+    ensures { λ r. ⌜ r .len ≤ 7 ⌝ }
 {
     match request {
         requests::Request::Start => name_from(5, *b"start\0\0"),

@@ -10,8 +10,10 @@ ghost use Rattle.lines.specs.Held.{lastZero, Extends, fitting};
 
 // Puts the next byte of a line after the n bytes that are kept of it, and answers how many are kept now: 129 where they do not fit.
 pub fn put_byte(line: &mut [u8], n: usize, x: u8) -> usize
-    requires { ⌜ (length (now line) ≡ 128) × (n ≤ 129) ⌝ }
-    ensures { λ r. ⌜ (r ≤ 129) × Extends (now (line .entry)) n x (now (line .exit)) r ⌝ }
+    requires { ⌜ length (now line) ≡ 128 ⌝ }
+    requires { ⌜ n ≤ 129 ⌝ }
+    ensures { λ r. ⌜ r ≤ 129 ⌝ }
+    ensures { λ r. ⌜ Extends (now (line .entry)) n x (now (line .exit)) r ⌝ }
 {
     if n > 128 {
         return n;
@@ -29,7 +31,8 @@ pub fn put_byte(line: &mut [u8], n: usize, x: u8) -> usize
 
 // How many bytes of the buffer are handed on as the line: those that are kept, or none where they do not fit.
 pub fn fitting(n: usize) -> usize
-    ensures { λ r. ⌜ (r ≡ fitting n) × (r ≤ 128) ⌝ }
+    ensures { λ r. ⌜ r ≡ fitting n ⌝ }
+    ensures { λ r. ⌜ r ≤ 128 ⌝ }
 {
     if n <= 128 {
         return n;

@@ -25,7 +25,8 @@ pub extern "C" fn probe_make_parity_all(
     b: u32,
     array: &mut [u8],
 ) -> u32
-    ensures { λ r. ⌜ (r ≡ allCode d parities s b (length (now (array .entry)))) × (now (array .exit) ≡ allBuffer d parities s b (now (array .entry))) ⌝ }
+    ensures { λ r. ⌜ r ≡ allCode d parities s b (length (now (array .entry))) ⌝ }
+    ensures { λ r. ⌜ now (array .exit) ≡ allBuffer d parities s b (now (array .entry)) ⌝ }
 {
     let code = all_code(d, parities, s, b, array.len());
     if code == 0 {

@@ -60,9 +60,9 @@ afresh g s t disk =
       failed = s .failed;
     }
 
--- Stripe t with these data blocks: parity is made afresh, its listed blocks are dropped, and the rest is settled.
+-- Stripe x with these data blocks: parity is made afresh, its listed blocks are dropped, and the rest is settled.
 unfoldable pub made : Geometry → State → ℕ → (ℕ → List ℕ) → State
-made g s t row = settled g (afresh g s (λ x. eqb x t) (setAt t row (s .disk)))
+made g s x row = settled g (afresh g s (λ y. eqb y x) (setAt x row (s .disk)))
 
 -- the list empty and every log record free; the log's values stay
 abbrev pub emptied : Log → Log
@@ -97,12 +97,12 @@ recordsFor d w m = count d (preRead d w m) + count d w
 abbrev pub placesFor : ℕ → (ℕ → Bool) → (ℕ → Bool) → ℕ
 placesFor d w m = choose (reconstructs d w m) (count d (unlistedWritten w m) + count d (unlistedOthers w m)) (count d (unlistedWritten w m))
 
--- whether stripe t is logged: in mode 1, where log and list have room
+-- whether stripe x is logged: in mode 1, where log and list have room
 abbrev pub logs : Geometry → State → ℕ → (ℕ → Bool) → Bool
-logs g s t w =
+logs g s x w =
     eqb (s .mode) 1
-    && (leb (s .log .next + recordsFor (g .d) w (listed (s .log) t)) (g .l)
-    && leb (marksIn g (listed (s .log)) + placesFor (g .d) w (listed (s .log) t)) (g .e))
+    && (leb (s .log .next + recordsFor (g .d) w (listed (s .log) x)) (g .l)
+    && leb (marksIn g (listed (s .log)) + placesFor (g .d) w (listed (s .log) x)) (g .e))
 
 -- Appending to the log: the values so far, the next free record, and the records of a stripe's blocks, which are Ori of the pre-read values and Cur
 -- of the new ones.
@@ -126,28 +126,28 @@ append (suc c) w v a = appendOne (w c) c (v c) (append c w v a)
 abbrev pub overwritten : (ℕ → Bool) → (ℕ → List ℕ) → (ℕ → List ℕ) → ℕ → List ℕ
 overwritten w v old i = choose (w i) (v i) (old i)
 
--- Pre-read values of stripe t are appended, with Ori set; then each new value, with Cur set.
+-- Pre-read values of stripe x are appended, with Ori set; then each new value, with Cur set.
 abbrev pub oriAppended : Geometry → State → ℕ → (ℕ → Bool) → Appended
-oriAppended g s t w =
-    append (g .d) (preRead (g .d) w (listed (s .log) t)) (s .disk t)
-    (record { value = s .log .value; next = s .log .next; noted = s .log .ori t })
+oriAppended g s x w =
+    append (g .d) (preRead (g .d) w (listed (s .log) x)) (s .disk x)
+    (record { value = s .log .value; next = s .log .next; noted = s .log .ori x })
 
 abbrev pub curAppended : Geometry → State → ℕ → (ℕ → Bool) → (ℕ → List ℕ) → Appended
-curAppended g s t w v =
-    append (g .d) w v (record { value = oriAppended g s t w .value; next = oriAppended g s t w .next; noted = s .log .cur t })
+curAppended g s x w v =
+    append (g .d) w v (record { value = oriAppended g s x w .value; next = oriAppended g s x w .next; noted = s .log .cur x })
 
--- Stripe t logged: pre-read values, new values, then the disks get the new blocks; parity is untouched.
+-- Stripe x logged: pre-read values, new values, then the disks get the new blocks; parity is untouched.
 unfoldable pub logged : Geometry → State → ℕ → (ℕ → Bool) → (ℕ → List ℕ) → State
-logged g s t w v =
+logged g s x w v =
     record {
-      disk = setAt t (overwritten w v (s .disk t)) (s .disk);
+      disk = setAt x (overwritten w v (s .disk x)) (s .disk);
       parity = s .parity;
       log =
           record {
-            value = curAppended g s t w v .value;
-            next = curAppended g s t w v .next;
-            ori = setAt t (oriAppended g s t w .noted) (s .log .ori);
-            cur = setAt t (curAppended g s t w v .noted) (s .log .cur);
+            value = curAppended g s x w v .value;
+            next = curAppended g s x w v .next;
+            ori = setAt x (oriAppended g s x w .noted) (s .log .ori);
+            cur = setAt x (curAppended g s x w v .noted) (s .log .cur);
           };
       mode = s .mode;
       failed = s .failed;
@@ -155,7 +155,7 @@ logged g s t w v =
 
 -- A stripe is logged where it can be; else the disks get the new blocks, parity is made afresh, and the stripe's listed blocks are dropped.
 unfoldable pub writeStripe : Geometry → State → ℕ → (ℕ → Bool) → (ℕ → List ℕ) → State
-writeStripe g s t w v = choose (logs g s t w) (logged g s t w v) (made g s t (overwritten w v (s .disk t)))
+writeStripe g s x w v = choose (logs g s x w) (logged g s x w v) (made g s x (overwritten w v (s .disk x)))
 
 -- ---- write, in stripes: n blocks from address a on, out of the caller's data
 
@@ -205,7 +205,7 @@ resyncStripe g s = lowestStale g (listed (s .log))
 -- Mode 2; the parities of the lowest stale stripe are made and its listed blocks dropped. If none is stale, nothing is stored and the mode is 0.
 unfoldable pub resynced : Geometry → State → State
 resynced g s =
-    let t = resyncStripe g s in choose (ltb t (g .s)) (made g (inMode s 2) t (s .disk t)) (inMode s 0)
+    let x = resyncStripe g s in choose (ltb x (g .s)) (made g (inMode s 2) x (s .disk x)) (inMode s 0)
 
 -- ---- rebuild
 

@@ -32,10 +32,6 @@ pub record InRange (g : Geometry) : Type 0 where
   pub parities-least : 1 ≤ g .parities
   pub parities-most : g .parities ≤ 2
 
--- what is asked of the measures where only the number of members matters
-abbrev pub Sized : Geometry → Type 0
-Sized g = (g .d ≤ 16) × ((1 ≤ g .parities) × (g .parities ≤ 2))
-
 -- Members are numbered from 0: those of the array, then the log. In the fixed layout the array's are the data disks, then the parities; in the rotating
 -- one each of them has another role from stripe to stripe.
 abbrev pub arrayMembers : Geometry → ℕ

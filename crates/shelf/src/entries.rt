@@ -1,150 +1,193 @@
-// The entries of a list, altered in their own places; then the chains are made anew.
+// The entries of a stripe: the words that the list has for its d blocks, read from a list and put into one.
+use super::alter;
+use super::list;
+use super::place;
 use super::record;
 use super::words;
+ghost use mathlib.Core.Bool.{_||_};
 ghost use mathlib.Core.Path.{_≡_};
 ghost use Prim.Native.Nat.{_+_, _*_, _≤_, _<_};
-ghost use lib.ListN.{length, set, take};
-ghost use Rattle.shelf.specs.Members.{Sized};
+ghost use lib.ListN.{length, set};
+ghost use Rattle.stripe.specs.Places.{numbered};
+ghost use Rattle.shelf.specs.Counting.{choose, bit, count};
+ghost use Rattle.shelf.specs.below.Tables.{Tests, tested};
+ghost use Rattle.shelf.specs.State.{isSome};
 ghost use Rattle.shelf.specs.Words.{words};
-ghost use Rattle.shelf.specs.HashList.{Measures, entry, entryIn, putFront, encode};
-ghost use Rattle.shelf.specs.Rebuilding.{parityFailedAt};
-ghost use Rattle.shelf.specs.Rewriting.{dropStripes, dropStripe, held, placed, KeptFrom, NoneBehind, Opened, Filled};
+ghost use Rattle.shelf.specs.below.Lists.{Measures, Lists, FirstFrom};
+ghost use Rattle.shelf.specs.HashList.{entry, said};
+ghost use Rattle.shelf.specs.below.Rewriting.{held};
+ghost use Rattle.shelf.specs.Lent.{recordAt};
+ghost use Rattle.shelf.specs.below.Reading.{ListReady};
+ghost use Rattle.shelf.specs.below.Writing.{EntriesOf, isListed, Packed, AreWords, Relistable, Relisted};
 
-// Puts an entry as entry i of a slice of e entries.
-pub fn put_entry(x: &mut [u32], e: usize, i: usize, a: usize, o: usize, c: usize)
-    requires { ⌜ (i < e) × ((e ≤ 4096) × ((3 * e ≤ length (now x)) × ((a < 4294967296) × ((o < 4294967296) × (c < 4294967296))))) ⌝ }
-    ensures { λ _. ⌜ held e 0 (now (x .exit)) ≡ set (held e 0 (now (x .entry))) i (entry a o c) ⌝ }
-{
-    x[3 * i] = a as u32;
-    x[3 * i + 1] = o as u32;
-    x[3 * i + 2] = c as u32;
+// The log records of the originals (Ori) and of the latest values (Cur) of a stripe's d blocks, or none.
+pub struct Entries {
+    pub ori: [usize; 16],
+    pub cur: [usize; 16],
 }
 
-// Puts an entry in place i of e, behind h slot heads. Its Next is left, and so are all words behind the place.
-fn put_place(l: &mut [u8], h: usize, e: usize, i: usize, a: usize, o: usize, c: usize)
-    requires { ⌜ (i < e) × ((h ≤ 256) × ((e ≤ 4096) × ((length (now l) ≡ 4 * (h + 4 * e)) × ((a < 4294967296) × ((o < 4294967296) × (c < 4294967296)))))) ⌝ }
-    ensures { λ _. ⌜ (placed e (words (now (l .exit))) h 0 ≡ set (placed e (words (now (l .entry))) h 0) i (entry a o c)) × KeptFrom (h + 4 * (i + 1)) (words (now (l .entry))) (words (now (l .exit))) ⌝ }
-{
-    words::put_word(l, h + 4 * i, a);
-    words::put_word(l, h + 4 * i + 1, o);
-    words::put_word(l, h + 4 * i + 2, c);
+// What the list says of a block, and the first place behind it.
+pub struct Step {
+    pub ori: usize,
+    pub cur: usize,
+    pub next: usize,
 }
 
-// Puts the entry of place i in place j too; of e places behind h slot heads. The words behind place j are left.
-fn move_place(l: &mut [u8], h: usize, e: usize, i: usize, j: usize)
-    requires { ⌜ (i < e) × ((j < e) × ((h ≤ 256) × ((e ≤ 4096) × (length (now l) ≡ 4 * (h + 4 * e))))) ⌝ }
-    ensures { λ _. ⌜ (placed e (words (now (l .exit))) h 0 ≡ set (placed e (words (now (l .entry))) h 0) j (entryIn (words (now (l .entry))) h i)) × KeptFrom (h + 4 * (j + 1)) (words (now (l .entry))) (words (now (l .exit))) ⌝ }
-{
-    let a = words::word(l, h + 4 * i);
-    let o = words::word(l, h + 4 * i + 1);
-    let c = words::word(l, h + 4 * i + 2);
-    put_place(l, h, e, j, a, o, c);
-}
-
-// Closes the entries of the first n places up over those of stripe k. Answers how many are left, in the places from 0 on. The words
-// behind the n places are left.
-pub fn close_up(l: &mut [u8], g: record::Geometry, k: usize, n: usize) -> usize
-    requires { ⌜ Measures g (now l) × (n ≤ g .e) ⌝ }
-    ensures { λ r. ⌜ (r ≤ n) × ((take r (placed (g .e) (words (now (l .exit))) (g .h) 0) ≡ dropStripe (g .d) k (take n (placed (g .e) (words (now (l .entry))) (g .h) 0))) × KeptFrom (g .h + 4 * n) (words (now (l .entry))) (words (now (l .exit)))) ⌝ }
-{
-    let d = g.d;
-    let h = g.h;
-    let e = g.e;
-    let mut m: usize = 0;
-    let mut p: usize = 0;
-    while p < n {
-        let a = words::word(l, h + 4 * p);
-        if a / d != k {
-            move_place(l, h, e, p, m);
-            m += 1;
-        }
-        p += 1;
-    }
-    m
-}
-
-// Closes the entries of the first n places up over those of the stripes with a parity on a failed member. Answers how many are left,
-// in the places from 0 on. The words behind the n places are left.
-pub fn close_up_lost(l: &mut [u8], shelf: record::Shelf, n: usize) -> usize
-    requires { ⌜ Measures (shelf .geometry) (now l) × ((n ≤ shelf .geometry .e) × Sized (shelf .geometry)) ⌝ }
-    ensures { λ r. ⌜ (r ≤ n) × ((take r (placed (shelf .geometry .e) (words (now (l .exit))) (shelf .geometry .h) 0) ≡ dropStripes (shelf .geometry .d) (parityFailedAt shelf) (take n (placed (shelf .geometry .e) (words (now (l .entry))) (shelf .geometry .h) 0))) × KeptFrom (shelf .geometry .h + 4 * n) (words (now (l .entry))) (words (now (l .exit)))) ⌝ }
+// The entries of stripe x.
+pub fn entries_of(shelf: record::Shelf, list: &[u8], x: usize) -> Entries
+    requires { ⌜ ListReady shelf (now list) ⌝ }
+    requires { ⌜ x < shelf .geometry .s ⌝ }
+    ensures { λ r. ⌜ EntriesOf (shelf .geometry) (now (list .entry)) x r ⌝ }
 {
     let g = shelf.geometry;
-    let d = g.d;
-    let h = g.h;
-    let e = g.e;
-    let mut m: usize = 0;
-    let mut p: usize = 0;
-    while p < n {
-        let a = words::word(l, h + 4 * p);
-        if !shelf.parity_failed(a / d) {
-            move_place(l, h, e, p, m);
-            m += 1;
-        }
-        p += 1;
-    }
-    m
+    let p = list::first_from(list, g, shelf.listed, x * g.d);
+    entries_from(list, g, shelf.listed, x, p)
 }
 
-// Opens a gap of c places for stripe k among the first n places. Answers where it begins. The words behind n + c places are left.
-pub fn open_up(l: &mut [u8], g: record::Geometry, k: usize, n: usize, c: usize) -> usize
-    requires { ⌜ Measures g (now l) × (n + c ≤ g .e) ⌝ }
-    ensures { λ r. ⌜ Opened (g .d) k c n (placed (g .e) (words (now (l .entry))) (g .h) 0) (placed (g .e) (words (now (l .exit))) (g .h) 0) r × KeptFrom (g .h + 4 * (n + c)) (words (now (l .entry))) (words (now (l .exit))) ⌝ }
+// The entries of stripe x in a list of n entries that passes number 3, where p is the first place of the stripe or of one above it.
+fn entries_from(list: &[u8], g: record::Geometry, n: usize, x: usize, p: usize) -> Entries
+    requires { ⌜ Measures g (now list) ⌝ }
+    requires { ⌜ Lists (words (now list)) g n ⌝ }
+    requires { ⌜ x < g .s ⌝ }
+    requires { ⌜ FirstFrom (words (now list)) (g .h) n (x * g .d) p ⌝ }
+    ensures { λ r. ⌜ EntriesOf g (now (list .entry)) x r ⌝ }
 {
     let d = g.d;
+    let mut ori = [words::NONE; 16];
+    let mut cur = [words::NONE; 16];
+    let mut q = p;
+    let mut i: usize = 0;
+    while i < d {
+        let said = said_from(list, g, n, x * d + i, q);
+        ori[i] = said.ori;
+        cur[i] = said.cur;
+        q = said.next;
+        i += 1;
+    }
+    Entries { ori, cur }
+}
+
+// What a list of n entries that passes number 3 says of address a, where p is the first place whose address is a or above.
+fn said_from(list: &[u8], g: record::Geometry, n: usize, a: usize, p: usize) -> Step
+    requires { ⌜ Measures g (now list) ⌝ }
+    requires { ⌜ Lists (words (now list)) g n ⌝ }
+    requires { ⌜ FirstFrom (words (now list)) (g .h) n a p ⌝ }
+    ensures { λ r. ⌜ r .ori ≡ said (words (now (list .entry))) g a .ori ⌝ }
+    ensures { λ r. ⌜ r .cur ≡ said (words (now (list .entry))) g a .cur ⌝ }
+    ensures { λ r. ⌜ FirstFrom (words (now (list .entry))) (g .h) n (a + 1) (r .next) ⌝ }
+{
     let h = g.h;
-    let e = g.e;
-    let mut i = n;
-    while i > 0 {
-        let j = i - 1;
-        let a = words::word(l, h + 4 * j);
-        if a / d < k {
-            break;
+    if p < n {
+        if place::address(list, h, p) == a {
+            let o = place::ori(list, h, p);
+            let c = place::cur(list, h, p);
+            return Step {
+                ori: o,
+                cur: c,
+                next: p + 1,
+            };
         }
-        move_place(l, h, e, j, j + c);
-        i = j;
     }
-    i
-}
-
-// Puts the c entries of y in the places from i on. The words behind these places are left.
-pub fn put_places(l: &mut [u8], h: usize, e: usize, i: usize, y: &[u32], c: usize)
-    requires { ⌜ (i + c ≤ e) × ((h ≤ 256) × ((e ≤ 4096) × ((length (now l) ≡ 4 * (h + 4 * e)) × (3 * c ≤ length (now y))))) ⌝ }
-    ensures { λ _. ⌜ Filled i c (placed e (words (now (l .entry))) h 0) (placed e (words (now (l .exit))) h 0) (now (y .entry)) × KeptFrom (h + 4 * (i + c)) (words (now (l .entry))) (words (now (l .exit))) ⌝ }
-{
-    let mut j: usize = 0;
-    while j < c {
-        let a = y[3 * j] as usize;
-        let o = y[3 * j + 1] as usize;
-        let q = y[3 * j + 2] as usize;
-        put_place(l, h, e, i + j, a, o, q);
-        j += 1;
+    Step {
+        ori: words::NONE,
+        cur: words::NONE,
+        next: p,
     }
 }
 
-// Puts place p of e, behind h slot heads, in front of its slot's chain.
-fn link(l: &mut [u8], h: usize, e: usize, p: usize)
-    requires { ⌜ (p < e) × ((0 < h) × ((h ≤ 256) × ((e ≤ 4096) × (length (now l) ≡ 4 * (h + 4 * e))))) ⌝ }
-    ensures { λ _. ⌜ words (now (l .exit)) ≡ putFront (words (now (l .entry))) h p (entryIn (words (now (l .entry))) h p) ⌝ }
+// Which of the d blocks of a stripe are listed, by its entries.
+pub fn listed_of(entries: Entries, d: usize) -> [bool; 16]
+    requires { ⌜ d ≤ 16 ⌝ }
+    ensures { λ r. ⌜ Tests d (isListed (numbered (entries .ori)) (numbered (entries .cur))) r ⌝ }
 {
-    let s = words::word(l, h + 4 * p) % h;
-    let n = words::word(l, s);
-    words::put_word(l, h + 4 * p + 3, n);
-    words::put_word(l, s, p);
+    let ori = entries.ori;
+    let cur = entries.cur;
+    let mut listed = [false; 16];
+    let mut i: usize = 0;
+    while i < d {
+        listed[i] = is_listed(ori[i], cur[i]);
+        i += 1;
+    }
+    listed
 }
 
-// Makes the list of the first m places: the chains anew, and none in the places from m on, of which those from n on are none already.
-pub fn relink(l: &mut [u8], g: record::Geometry, m: usize, n: usize)
-    requires { ⌜ Measures g (now l) × ((m ≤ g .e) × ((n ≤ g .e) × NoneBehind (g .h) (g .e) m n (words (now l)))) ⌝ }
-    ensures { λ _. ⌜ words (now (l .exit)) ≡ encode g (take m (placed (g .e) (words (now (l .entry))) (g .h) 0)) ⌝ }
+// Whether one of the two words of a block is a log record.
+fn is_listed(o: usize, c: usize) -> bool
+    ensures { λ r. ⌜ r ≡ (isSome (recordAt o) || isSome (recordAt c)) ⌝ }
 {
-    let h = g.h;
-    let e = g.e;
-    words::fill_from(l, 0, h);
-    words::fill_from(l, h + 4 * m, h + 4 * n);
-    let mut p = m;
-    while p > 0 {
-        p -= 1;
-        link(l, h, e, p);
+    if o == words::NONE {
+        return c != words::NONE;
     }
+    true
+}
+
+// Puts the entries in the place of stripe x's in a list of n entries that passes number 3. Answers how many entries the list then has.
+pub fn relist(list: &mut [u8], g: record::Geometry, x: usize, entries: Entries, n: usize) -> usize
+    requires { ⌜ Relistable g x entries n (now list) ⌝ }
+    ensures { λ r. ⌜ Relisted g x entries (now (list .entry)) (now (list .exit)) r ⌝ }
+{
+    let listed = listed_of(entries, g.d);
+    let mut slice = [0u32; 48];
+    let c = pack_entries(entries, listed, x * g.d, g.d, &mut slice);
+    alter::replace_stripe(list, g, x, &slice, c, n)
+}
+
+// Packs the entries of the listed blocks of a stripe, whose addresses begin at base, in a slice of 16 entries. Answers how many they
+// are.
+fn pack_entries(
+    entries: Entries,
+    listed: [bool; 16],
+    base: usize,
+    d: usize,
+    slice: &mut [u32],
+) -> usize
+    requires { ⌜ d ≤ 16 ⌝ }
+    requires { ⌜ 48 ≤ length (now slice) ⌝ }
+    requires { ⌜ base + 16 < 4294967296 ⌝ }
+    requires { ⌜ AreWords d (entries .ori) ⌝ }
+    requires { ⌜ AreWords d (entries .cur) ⌝ }
+    ensures { λ r. ⌜ r ≡ count d (tested listed) ⌝ }
+    ensures { λ r. ⌜ Packed d (tested listed) base (numbered (entries .ori)) (numbered (entries .cur)) (now (slice .exit)) ⌝ }
+{
+    let ori = entries.ori;
+    let cur = entries.cur;
+    let mut n: usize = 0;
+    let mut i: usize = 0;
+    while i < d {
+        n = pack_if(slice, n, listed[i], base + i, ori[i], cur[i]);
+        i += 1;
+    }
+    n
+}
+
+// Puts an entry as entry n of a slice of 16 entries, if picked. Answers the number of the entry after it.
+fn pack_if(slice: &mut [u32], n: usize, picked: bool, a: usize, o: usize, c: usize) -> usize
+    requires { ⌜ n < 16 ⌝ }
+    requires { ⌜ 48 ≤ length (now slice) ⌝ }
+    requires { ⌜ a < 4294967296 ⌝ }
+    requires { ⌜ o < 4294967296 ⌝ }
+    requires { ⌜ c < 4294967296 ⌝ }
+    ensures { λ r. ⌜ r ≡ n + bit picked ⌝ }
+    ensures { λ r. ⌜ held 16 0 (now (slice .exit)) ≡ choose picked (set (held 16 0 (now (slice .entry))) n (entry a o c)) (held 16 0 (now (slice .entry))) ⌝ }
+{
+    if picked {
+        pack_entry(slice, 16, n, a, o, c);
+        return n + 1;
+    }
+    n
+}
+
+// Puts an entry as entry i of a slice of e entries.
+fn pack_entry(slice: &mut [u32], e: usize, i: usize, a: usize, o: usize, c: usize)
+    requires { ⌜ i < e ⌝ }
+    requires { ⌜ e ≤ 4096 ⌝ }
+    requires { ⌜ 3 * e ≤ length (now slice) ⌝ }
+    requires { ⌜ a < 4294967296 ⌝ }
+    requires { ⌜ o < 4294967296 ⌝ }
+    requires { ⌜ c < 4294967296 ⌝ }
+    ensures { λ _. ⌜ held e 0 (now (slice .exit)) ≡ set (held e 0 (now (slice .entry))) i (entry a o c) ⌝ }
+{
+    slice[3 * i] = a as u32;
+    slice[3 * i + 1] = o as u32;
+    slice[3 * i + 2] = c as u32;
 }

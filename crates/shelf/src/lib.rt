@@ -3,29 +3,34 @@
 //
 // Here stand the calls for C. Below them: `record` has the shelf record and its methods, `status` decides the number by which a call is
 // refused, before anything is stored. The list of the blocks whose parity is put off is bytes: `words` reads and writes them as 32-bit
-// words, `list` looks a block up and tests a list for number 3, `entries` moves a list's entries in their places and makes the chains
-// anew, `alter` drops and replaces the entries of a stripe and drops those of stripes that lost their parity, `stale` tells which
-// stripes have a listed block. The calls that move blocks have a file each, `read`, `fetch`, `write`, `resync`, `rebuild`; a write's
-// stripe goes by its `share` of the caller's data, and one that is logged by a `plan`, the stripe's `row` of the list, `log` and
+// words, `place` those of a list place, `list` finds the place of an address and tests a list for number 3, `entries` reads and replaces
+// the entries of a stripe, `sources` tells from them where the stripe's blocks are to be had, `stale` which stripes have a listed block.
+// `alter` drops and replaces a stripe's entries and drops those of stripes that lost their parity, over `moves`, which moves entries in
+// their places, and `links`, which has slot heads and Next words follow. The calls that move blocks have a file each, `read`, `fetch`,
+// `write`, `resync`, `rebuild`; a write's stripe goes by its `share` of the caller's data, and one that is logged by a `plan`, `log` and
 // `copies`. The contracts cite `specs/`: `Lent.antt` has the promise of every call, `Calls.antt` what each does.
 mod alter;
 mod copies;
 mod entries;
 mod fetch;
+mod links;
 mod list;
 mod log;
+mod moves;
+mod place;
 mod plan;
 mod read;
 mod rebuild;
 pub mod record;
 mod resync;
-mod row;
 mod share;
+mod sources;
 mod stale;
 pub mod status;
 mod words;
 mod write;
 
+use status::Request;
 ghost use mathlib.Core.Logic.{_≢_};
 ghost use mathlib.Core.Path.{_≡_};
 ghost use lib.ListN.{length, replicate};
@@ -56,7 +61,9 @@ pub extern "C" fn shelf_format(
     log: &mut [u8],
     list: &mut [u8],
 ) -> Answer
-    ensures { λ a. ⌜ (a .code ≡ formatCode (shelf .geometry) (length (now (array .entry))) (length (now (log .entry))) (length (now (list .entry)))) × (lent (a .shelf) (now (array .exit)) (now (log .exit)) (now (list .exit)) ≡ formatLeaves (lent shelf (now (array .entry)) (now (log .entry)) (now (list .entry)))) ⌝ }
+    ensures { λ a. ⌜ a .code ≡ formatCode (shelf .geometry) (length (now (array .entry))) (length (now (log .entry))) (length (now (list .entry))) ⌝ }
+    ensures { λ a. ⌜ lent (a .shelf) (now (array .exit)) (now (log .exit)) (now (list .exit)) ≡ formatLeaves
+        (lent shelf (now (array .entry)) (now (log .entry)) (now (list .entry))) ⌝ }
 {
     let g = shelf.geometry;
     let code = status::format_code(g, array.len(), log.len(), list.len());
@@ -75,9 +82,10 @@ pub extern "C" fn shelf_format(
 // Goes from mode 0 to mode 1. Answers 0; or the first of 1, 2, 3, 7, 8, 9 that applies. Stores no byte.
 #[no_mangle]
 pub extern "C" fn shelf_start(shelf: record::Shelf, array: &[u8], log: &[u8], list: &[u8]) -> Answer
-    ensures { λ a. ⌜ Answered (lent shelf (now (array .entry)) (now (log .entry)) (now (list .entry))) start (a .code) (lent (a .shelf) (now (array .entry)) (now (log .entry)) (now (list .entry))) ⌝ }
+    ensures { λ a. ⌜ Answered (lent shelf (now (array .entry)) (now (log .entry)) (now (list .entry))) start (a .code)
+        (lent (a .shelf) (now (array .entry)) (now (log .entry)) (now (list .entry))) ⌝ }
 {
-    let code = status::start_code(shelf, array.len(), log.len(), list);
+    let code = status::number_of(shelf, Request::Start, array.len(), log.len(), list);
     if code != 0 {
         return Answer { code, shelf };
     }
@@ -96,9 +104,10 @@ pub extern "C" fn shelf_fail(
     log: &[u8],
     list: &[u8],
 ) -> Answer
-    ensures { λ a. ⌜ Answered (lent shelf (now (array .entry)) (now (log .entry)) (now (list .entry))) (fail member) (a .code) (lent (a .shelf) (now (array .entry)) (now (log .entry)) (now (list .entry))) ⌝ }
+    ensures { λ a. ⌜ Answered (lent shelf (now (array .entry)) (now (log .entry)) (now (list .entry))) (fail member) (a .code)
+        (lent (a .shelf) (now (array .entry)) (now (log .entry)) (now (list .entry))) ⌝ }
 {
-    let code = status::fail_code(shelf, member, array.len(), log.len(), list);
+    let code = status::number_of(shelf, Request::Fail(member), array.len(), log.len(), list);
     if code != 0 {
         return Answer { code, shelf };
     }
@@ -120,9 +129,11 @@ pub extern "C" fn shelf_write(
     log: &mut [u8],
     list: &mut [u8],
 ) -> Answer
-    ensures { λ a. ⌜ Answered (lent shelf (now (array .entry)) (now (log .entry)) (now (list .entry))) (write address count (now (source .entry))) (a .code) (lent (a .shelf) (now (array .exit)) (now (log .exit)) (now (list .exit))) ⌝ }
+    ensures { λ a. ⌜ Answered (lent shelf (now (array .entry)) (now (log .entry)) (now (list .entry))) (write address count (now (source .entry)))
+        (a .code) (lent (a .shelf) (now (array .exit)) (now (log .exit)) (now (list .exit))) ⌝ }
 {
-    let code = status::write_code(shelf, address, count, source, array.len(), log.len(), list);
+    let request = Request::Write(address, count, source.len());
+    let code = status::number_of(shelf, request, array.len(), log.len(), list);
     if code != 0 {
         return Answer { code, shelf };
     }
@@ -145,22 +156,15 @@ pub extern "C" fn shelf_read(
     log: &[u8],
     list: &[u8],
 ) -> Answer
-    ensures { λ a. ⌜ Answered (lent shelf (now (array .entry)) (now (log .entry)) (now (list .entry))) (read address count (length (now (out .entry)))) (a .code) (lent (a .shelf) (now (array .entry)) (now (log .entry)) (now (list .entry))) × ((a .code ≡ 0 → now (out .exit) ≡ readBuffer (shelf .geometry) (stateOf (lent shelf (now (array .entry)) (now (log .entry)) (now (list .entry)))) address count) × (a .code ≢ 0 → now (out .exit) ≡ now (out .entry))) ⌝ }
+    ensures { λ a. ⌜ Answered (lent shelf (now (array .entry)) (now (log .entry)) (now (list .entry)))
+        (read address count (length (now (out .entry)))) (a .code) (lent (a .shelf) (now (array .entry)) (now (log .entry)) (now (list .entry))) ⌝ }
+    ensures { λ a. ⌜ (a .code ≡ 0 → now (out .exit) ≡ readBuffer (shelf .geometry) (stateOf (lent shelf (now (array .entry)) (now (log .entry)) (now (list .entry)))) address count) ⌝ }
+    ensures { λ a. ⌜ (a .code ≢ 0 → now (out .exit) ≡ now (out .entry)) ⌝ }
 {
-    let number = status::read_code(
-        shelf,
-        address,
-        count,
-        out.len(),
-        array.len(),
-        log.len(),
-        list,
-    );
-    if number != 0 {
-        return Answer {
-            code: number,
-            shelf,
-        };
+    let request = Request::Read(address, count, out.len());
+    let code = status::number_of(shelf, request, array.len(), log.len(), list);
+    if code != 0 {
+        return Answer { code, shelf };
     }
     read::read_blocks(shelf.geometry, address, count, out, array);
     Answer { code: 0, shelf }
@@ -179,17 +183,13 @@ pub extern "C" fn shelf_fetch(
     log: &[u8],
     list: &[u8],
 ) -> Answer
-    ensures { λ a. ⌜ Answered (lent shelf (now (array .entry)) (now (log .entry)) (now (list .entry))) (fetch address count (length (now (out .entry)))) (a .code) (lent (a .shelf) (now (array .entry)) (now (log .entry)) (now (list .entry))) × ((a .code ≡ 0 → now (out .exit) ≡ fetchBuffer (shelf .geometry) (stateOf (lent shelf (now (array .entry)) (now (log .entry)) (now (list .entry)))) address count) × (a .code ≢ 0 → now (out .exit) ≡ now (out .entry))) ⌝ }
+    ensures { λ a. ⌜ Answered (lent shelf (now (array .entry)) (now (log .entry)) (now (list .entry)))
+        (fetch address count (length (now (out .entry)))) (a .code) (lent (a .shelf) (now (array .entry)) (now (log .entry)) (now (list .entry))) ⌝ }
+    ensures { λ a. ⌜ (a .code ≡ 0 → now (out .exit) ≡ fetchBuffer (shelf .geometry) (stateOf (lent shelf (now (array .entry)) (now (log .entry)) (now (list .entry)))) address count) ⌝ }
+    ensures { λ a. ⌜ (a .code ≢ 0 → now (out .exit) ≡ now (out .entry)) ⌝ }
 {
-    let code = status::fetch_code(
-        shelf,
-        address,
-        count,
-        out.len(),
-        array.len(),
-        log.len(),
-        list,
-    );
+    let request = Request::Fetch(address, count, out.len());
+    let code = status::number_of(shelf, request, array.len(), log.len(), list);
     if code != 0 {
         return Answer { code, shelf };
     }
@@ -205,10 +205,11 @@ pub extern "C" fn shelf_new_log(
     log: &[u8],
     list: &[u8],
 ) -> Answer
-    ensures { λ a. ⌜ Answered (lent shelf (now (array .entry)) (now (log .entry)) (now (list .entry))) newLog (a .code) (lent (a .shelf) (now (array .entry)) (now (log .entry)) (now (list .entry))) ⌝ }
+    ensures { λ a. ⌜ Answered (lent shelf (now (array .entry)) (now (log .entry)) (now (list .entry))) newLog (a .code)
+        (lent (a .shelf) (now (array .entry)) (now (log .entry)) (now (list .entry))) ⌝ }
 {
     let g = shelf.geometry;
-    let code = status::new_log_code(shelf, array.len(), log.len(), list);
+    let code = status::number_of(shelf, Request::NewLog, array.len(), log.len(), list);
     if code != 0 {
         return Answer { code, shelf };
     }
@@ -227,11 +228,13 @@ pub extern "C" fn shelf_resync(
     log: &[u8],
     list: &mut [u8],
 ) -> Resynced
-    ensures { λ a. ⌜ Answered (lent shelf (now (array .entry)) (now (log .entry)) (now (list .entry))) resync (a .code) (lent (a .shelf) (now (array .exit)) (now (log .entry)) (now (list .exit))) × (a .stripe ≡ toldStripe (lent shelf (now (array .entry)) (now (log .entry)) (now (list .entry))) (a .code)) ⌝ }
+    ensures { λ a. ⌜ Answered (lent shelf (now (array .entry)) (now (log .entry)) (now (list .entry))) resync (a .code)
+        (lent (a .shelf) (now (array .exit)) (now (log .entry)) (now (list .exit))) ⌝ }
+    ensures { λ a. ⌜ a .stripe ≡ toldStripe (lent shelf (now (array .entry)) (now (log .entry)) (now (list .entry))) (a .code) ⌝ }
 {
     let g = shelf.geometry;
     let s = g.s;
-    let code = status::resync_code(shelf, array.len(), log.len(), list);
+    let code = status::number_of(shelf, Request::Resync, array.len(), log.len(), list);
     if code != 0 {
         return Resynced {
             code,
@@ -239,19 +242,19 @@ pub extern "C" fn shelf_resync(
             shelf,
         };
     }
-    let t = stale::lowest_stale(list, g, shelf.listed);
-    if t >= s {
+    let x = stale::lowest_stale(list, g, shelf.listed);
+    if x >= s {
         return Resynced {
             code: 0,
-            stripe: t,
+            stripe: x,
             shelf: shelf.in_mode(0),
         };
     }
-    let n = resync::make_stripe(array, list, g, t, shelf.listed);
+    let n = resync::make_stripe(array, list, g, x, shelf.listed);
     let entered = shelf.in_mode(2);
     Resynced {
         code: 0,
-        stripe: t,
+        stripe: x,
         shelf: entered.drop_to(n),
     }
 }
@@ -266,9 +269,10 @@ pub extern "C" fn shelf_rebuild(
     log: &[u8],
     list: &mut [u8],
 ) -> Answer
-    ensures { λ a. ⌜ Answered (lent shelf (now (array .entry)) (now (log .entry)) (now (list .entry))) rebuild (a .code) (lent (a .shelf) (now (array .exit)) (now (log .entry)) (now (list .exit))) ⌝ }
+    ensures { λ a. ⌜ Answered (lent shelf (now (array .entry)) (now (log .entry)) (now (list .entry))) rebuild (a .code)
+        (lent (a .shelf) (now (array .exit)) (now (log .entry)) (now (list .exit))) ⌝ }
 {
-    let code = status::rebuild_code(shelf, array.len(), log.len(), list);
+    let code = status::number_of(shelf, Request::Rebuild, array.len(), log.len(), list);
     if code != 0 {
         return Answer { code, shelf };
     }
@@ -288,10 +292,11 @@ pub extern "C" fn shelf_full_resync(
     log: &[u8],
     list: &mut [u8],
 ) -> Answer
-    ensures { λ a. ⌜ Answered (lent shelf (now (array .entry)) (now (log .entry)) (now (list .entry))) fullResync (a .code) (lent (a .shelf) (now (array .exit)) (now (log .entry)) (now (list .exit))) ⌝ }
+    ensures { λ a. ⌜ Answered (lent shelf (now (array .entry)) (now (log .entry)) (now (list .entry))) fullResync (a .code)
+        (lent (a .shelf) (now (array .exit)) (now (log .entry)) (now (list .exit))) ⌝ }
 {
     let g = shelf.geometry;
-    let code = status::full_resync_code(shelf, array.len(), log.len(), list);
+    let code = status::number_of(shelf, Request::FullResync, array.len(), log.len(), list);
     if code != 0 {
         return Answer { code, shelf };
     }

@@ -2,12 +2,13 @@
 // it by value and hands the new one back; the methods here make the new one.
 ghost use mathlib.Core.Path.{_≡_};
 ghost use Prim.Native.Nat.{_≤_, _<_};
-ghost use Rattle.shelf.specs.Counting.{count, any, Tests};
-ghost use Rattle.shelf.specs.Members.{Sized, arrayMembers, logMember, allMembers};
+ghost use Rattle.shelf.specs.Counting.{count, any};
+ghost use Rattle.shelf.specs.below.Tables.{Tests};
+ghost use Rattle.shelf.specs.below.Records.{Sized, failedRole, withMode, withFailed, withRenewed, withListed, withLogged, withCleared};
+ghost use Rattle.shelf.specs.Members.{arrayMembers, logMember, allMembers};
 ghost use Rattle.shelf.specs.Status.{arrayFailed, logFailed};
 ghost use Rattle.shelf.specs.Calls.{parityFailed};
 ghost use Rattle.shelf.specs.Lent.{flagAt, flagFrom};
-ghost use Rattle.shelf.specs.Records.{failedRole, withMode, withFailed, withRenewed, withListed, withLogged, withCleared};
 
 // The measures of a shelf, by the customer's letters: d data blocks a stripe (2 to 16), s stripes (1 to 65,536), blocks of b bytes
 // (1 to 4,096), a log of l records (1 to 65,536), a list of h hash slots (1 to 256) and e places (1 to 4,096); the layout (0
@@ -81,7 +82,8 @@ impl Shelf {
 
     // Whether one of the members from low on, below high, has failed.
     pub fn any_failed(self, low: usize, high: usize) -> bool
-        requires { ⌜ (low ≤ high) × (high ≤ 19) ⌝ }
+        requires { ⌜ low ≤ high ⌝ }
+        requires { ⌜ high ≤ 19 ⌝ }
         ensures { λ r. ⌜ r ≡ any high (flagFrom (self .failed) low) ⌝ }
     {
         let failed = self.failed;
@@ -125,7 +127,8 @@ impl Shelf {
 
     // Whether the member that has role i in stripe x has failed.
     pub fn role_failed(self, x: usize, i: usize) -> bool
-        requires { ⌜ Sized (self .geometry) × (i < arrayMembers (self .geometry)) ⌝ }
+        requires { ⌜ Sized (self .geometry) ⌝ }
+        requires { ⌜ i < arrayMembers (self .geometry) ⌝ }
         ensures { λ r. ⌜ r ≡ failedRole self x i ⌝ }
     {
         let g = self.geometry;
@@ -180,7 +183,8 @@ impl Shelf {
 
     // The record after member j failed. If it is the log, mode 1 becomes 2 when blocks are listed, else 0.
     pub fn fail(mut self, j: usize) -> Shelf
-        requires { ⌜ Sized (self .geometry) × (j < 19) ⌝ }
+        requires { ⌜ Sized (self .geometry) ⌝ }
+        requires { ⌜ j < 19 ⌝ }
         ensures { λ r. ⌜ r ≡ withFailed self j ⌝ }
     {
         let g = self.geometry;

@@ -8,21 +8,27 @@ ghost use Rattle.stripe.specs.Places.{parityMade};
 ghost use Rattle.shelf.specs.Members.{InRange, placeAt};
 ghost use Rattle.shelf.specs.Lent.{arrayLength};
 ghost use Rattle.shelf.specs.Words.{words};
-ghost use Rattle.shelf.specs.HashList.{Measures, Lists, entries};
-ghost use Rattle.shelf.specs.Rewriting.{Rewritten, dropStripe};
+ghost use Rattle.shelf.specs.below.Lists.{Measures, Lists};
+ghost use Rattle.shelf.specs.HashList.{entries};
+ghost use Rattle.shelf.specs.below.Rewriting.{Rewritten, dropStripe};
 
-// Makes the parities of stripe t of the data that stand in the array, and drops its entries from a list of n entries that passes
+// Makes the parities of stripe x of the data that stand in the array, and drops its entries from a list of n entries that passes
 // number 3. Answers how many entries are left.
 pub fn make_stripe(
     array: &mut [u8],
     list: &mut [u8],
     g: record::Geometry,
-    t: usize,
+    x: usize,
     n: usize,
 ) -> usize
-    requires { ⌜ InRange g × ((t < g .s) × ((length (now array) ≡ arrayLength g) × (Measures g (now list) × Lists (words (now list)) g n))) ⌝ }
-    ensures { λ r. ⌜ (now (array .exit) ≡ parityMade (placeAt g t) (g .d) (g .parities) (g .b) (now (array .entry))) × Rewritten g (dropStripe (g .d) t (entries (words (now (list .entry))) g)) (now (list .exit)) r ⌝ }
+    requires { ⌜ InRange g ⌝ }
+    requires { ⌜ x < g .s ⌝ }
+    requires { ⌜ length (now array) ≡ arrayLength g ⌝ }
+    requires { ⌜ Measures g (now list) ⌝ }
+    requires { ⌜ Lists (words (now list)) g n ⌝ }
+    ensures { λ r. ⌜ now (array .exit) ≡ parityMade (placeAt g x) (g .d) (g .parities) (g .b) (now (array .entry)) ⌝ }
+    ensures { λ r. ⌜ Rewritten g (dropStripe (g .d) x (entries (words (now (list .entry))) g)) (now (list .exit)) r ⌝ }
 {
-    stripe::parity::make_parity(array, g.layout, g.d, g.parities, g.s, t, g.b);
-    alter::drop_stripe(list, g, t, n)
+    stripe::parity::make_parity(array, g.layout, g.d, g.parities, g.s, x, g.b);
+    alter::drop_stripe(list, g, x, n)
 }

@@ -14,8 +14,9 @@ use Rattle.field.specs.Field.{times, inverse}
 use Rattle.field.proofs.Laws.{xor-zero-l}
 use Rattle.stripe.specs.Blocks.{gen, block, byteOf, put}
 use Rattle.stripe.specs.Parity.{pick, parityP, parityQ, made, Recoverable, without, restP, solved, dataSolved, recovered}
-use Rattle.stripe.specs.Places.{inOrder, numbered, columnAt, byColumn, parityMade, Tabled, Held, Whole}
-use Rattle.stripe.specs.Steps.{Gathers, Starts, zeros, taken, plus, thereP, standIn, standingQ, coefficient, ofSum, sumOf, Workable, replaced, dataStep, parityStep}
+use Rattle.stripe.specs.Places.{inOrder, numbered, columnAt, byColumn, parityMade}
+use Rattle.stripe.specs.below.Tables.{Tabled, Held, Whole}
+use Rattle.stripe.specs.below.Steps.{Gathers, Starts, zeros, taken, plus, thereP, standIn, standingQ, coefficient, ofSum, sumOf, Workable, replaced, dataStep, parityStep}
 use Rattle.stripe.specs.Calls.{eachColumn}
 use Rattle.stripe.proofs.Lists.{less-or-not, length-gen, gen-ext}
 use Rattle.stripe.proofs.BlockLaws.{fits, ext-bytes, length-put, getD-put-in, block-whole}

@@ -24,7 +24,8 @@ ghost use Rattle.stripe.specs.Calls.{makeCode, makeBuffer, recoverCode, 
 // nothing.
 #[no_mangle]
 pub extern "C" fn stripe_make_parity(d: u32, parities: u32, b: u32, stripe: &mut [u8]) -> u32
-    ensures { λ r. ⌜ (r ≡ makeCode d parities b (length (now (stripe .entry)))) × (now (stripe .exit) ≡ makeBuffer d parities b (now (stripe .entry))) ⌝ }
+    ensures { λ r. ⌜ r ≡ makeCode d parities b (length (now (stripe .entry))) ⌝ }
+    ensures { λ r. ⌜ now (stripe .exit) ≡ makeBuffer d parities b (now (stripe .entry)) ⌝ }
 {
     let code = make_code(d, parities, b, stripe.len());
     if code == 0 {
@@ -45,7 +46,8 @@ pub extern "C" fn stripe_recover(
     y: u32,
     stripe: &mut [u8],
 ) -> u32
-    ensures { λ r. ⌜ (r ≡ recoverCode d parities b x y (length (now (stripe .entry)))) × (now (stripe .exit) ≡ recoverBuffer d parities b x y (now (stripe .entry))) ⌝ }
+    ensures { λ r. ⌜ r ≡ recoverCode d parities b x y (length (now (stripe .entry))) ⌝ }
+    ensures { λ r. ⌜ now (stripe .exit) ≡ recoverBuffer d parities b x y (now (stripe .entry)) ⌝ }
 {
     let code = recover_code(d, parities, b, x, y, stripe.len());
     if code == 0 {

@@ -13,13 +13,16 @@ ghost use Prim.Native.Nat.{_+_, _≤_, _<_};
 ghost use lib.Dec.{eqb};
 ghost use lib.ListN.{length};
 ghost use Rattle.stripe.specs.Parity.{parityP, parityQ, Recoverable, restP, solved, recovered};
-ghost use Rattle.stripe.specs.Places.{Whole};
-ghost use Rattle.stripe.specs.Steps.{Workable, replaced, sumOf, dataStep, ofSum, parityStep};
+ghost use Rattle.stripe.specs.below.Tables.{Whole};
+ghost use Rattle.stripe.specs.below.Steps.{Workable, replaced, sumOf, dataStep, ofSum, parityStep};
 ghost use Rattle.stripe.specs.Calls.{eachColumn};
 
 // Recovers the members x and y of the stripe.
 pub fn recover(stripe: &mut [u8], d: usize, parities: usize, b: usize, x: usize, y: usize)
-    requires { ⌜ Whole d parities b (length (now stripe)) × ((x < d + parities) × ((y < d + parities) × Recoverable parities x y)) ⌝ }
+    requires { ⌜ Whole d parities b (length (now stripe)) ⌝ }
+    requires { ⌜ x < d + parities ⌝ }
+    requires { ⌜ y < d + parities ⌝ }
+    requires { ⌜ Recoverable parities x y ⌝ }
     ensures { λ _. ⌜ now (stripe .exit) ≡ eachColumn (recovered d x y) (d + parities) b (now (stripe .entry)) ⌝ }
 {
     let mut work = [0u8; 4096];
@@ -36,7 +39,11 @@ fn recover_in(
     x: usize,
     y: usize,
 )
-    requires { ⌜ Whole d parities b (length (now stripe)) × ((length (now work) ≡ b) × ((x < d + parities) × ((y < d + parities) × Recoverable parities x y))) ⌝ }
+    requires { ⌜ Whole d parities b (length (now stripe)) ⌝ }
+    requires { ⌜ length (now work) ≡ b ⌝ }
+    requires { ⌜ x < d + parities ⌝ }
+    requires { ⌜ y < d + parities ⌝ }
+    requires { ⌜ Recoverable parities x y ⌝ }
     ensures { λ _. ⌜ now (stripe .exit) ≡ eachColumn (recovered d x y) (d + parities) b (now (stripe .entry)) ⌝ }
 {
     let ns = places::own_numbers(d, parities);
@@ -55,7 +62,8 @@ fn recover_data(
     x: usize,
     y: usize,
 )
-    requires { ⌜ Workable d parities b (now stripe) (now work) (now ns) × Recoverable parities x y ⌝ }
+    requires { ⌜ Workable d parities b (now stripe) (now work) (now ns) ⌝ }
+    requires { ⌜ Recoverable parities x y ⌝ }
     ensures { λ _. ⌜ now (stripe .exit) ≡ eachColumn (dataStep d x y) (d + parities) b (now (stripe .entry)) ⌝ }
 {
     if x < d {
@@ -84,7 +92,9 @@ fn recover_parity(
     x: usize,
     y: usize,
 )
-    requires { ⌜ Workable d parities b (now stripe) (now work) (now ns) × ((x < d + parities) × (y < d + parities)) ⌝ }
+    requires { ⌜ Workable d parities b (now stripe) (now work) (now ns) ⌝ }
+    requires { ⌜ x < d + parities ⌝ }
+    requires { ⌜ y < d + parities ⌝ }
     ensures { λ _. ⌜ now (stripe .exit) ≡ eachColumn (parityStep d x y) (d + parities) b (now (stripe .entry)) ⌝ }
 {
     if names(x, y, d) {
@@ -121,7 +131,9 @@ fn recover_one(
     x: usize,
     y: usize,
 )
-    requires { ⌜ Workable d parities b (now stripe) (now work) (now ns) × ((x < d) × Recoverable parities x y) ⌝ }
+    requires { ⌜ Workable d parities b (now stripe) (now work) (now ns) ⌝ }
+    requires { ⌜ x < d ⌝ }
+    requires { ⌜ Recoverable parities x y ⌝ }
     ensures { λ _. ⌜ now (stripe .exit) ≡ eachColumn (replaced x (solved d x y)) (d + parities) b (now (stripe .entry)) ⌝ }
 {
     if solve::comes_from_p(d, x, y) {
@@ -156,7 +168,11 @@ fn recover_two(
     x: usize,
     y: usize,
 )
-    requires { ⌜ Workable d parities b (now stripe) (now work) (now ns) × ((x < d) × ((y < d) × ((x ≡ y → ⊥) × (2 ≤ parities)))) ⌝ }
+    requires { ⌜ Workable d parities b (now stripe) (now work) (now ns) ⌝ }
+    requires { ⌜ x < d ⌝ }
+    requires { ⌜ y < d ⌝ }
+    requires { ⌜ (x ≡ y → ⊥) ⌝ }
+    requires { ⌜ 2 ≤ parities ⌝ }
     ensures { λ _. ⌜ now (stripe .exit) ≡ eachColumn (dataStep d x y) (d + parities) b (now (stripe .entry)) ⌝ }
 {
     put_sum(stripe, work, ns, d, parities, b, x, y);
@@ -175,7 +191,8 @@ fn put_sum(
     x: usize,
     y: usize,
 )
-    requires { ⌜ Workable d parities b (now stripe) (now work) (now ns) × (y < d) ⌝ }
+    requires { ⌜ Workable d parities b (now stripe) (now work) (now ns) ⌝ }
+    requires { ⌜ y < d ⌝ }
     ensures { λ _. ⌜ now (stripe .exit) ≡ eachColumn (replaced y (restP d x y)) (d + parities) b (now (stripe .entry)) ⌝ }
 {
     let none = [0u8; 0];
@@ -194,8 +211,13 @@ fn split_sum(
     x: usize,
     y: usize,
 )
-    requires { ⌜ Workable d parities b (now stripe) (now work) (now ns) × ((x < d) × ((y < d) × ((x ≡ y → ⊥) × (2 ≤ parities)))) ⌝ }
-    ensures { λ _. ⌜ now (stripe .exit) ≡ eachColumn (replaced y (sumOf x y)) (d + parities) b (eachColumn (replaced x (ofSum d x y)) (d + parities) b (now (stripe .entry))) ⌝ }
+    requires { ⌜ Workable d parities b (now stripe) (now work) (now ns) ⌝ }
+    requires { ⌜ x < d ⌝ }
+    requires { ⌜ y < d ⌝ }
+    requires { ⌜ (x ≡ y → ⊥) ⌝ }
+    requires { ⌜ 2 ≤ parities ⌝ }
+    ensures { λ _. ⌜ now (stripe .exit) ≡ eachColumn (replaced y (sumOf x y)) (d + parities) b
+        (eachColumn (replaced x (ofSum d x y)) (d + parities) b (now (stripe .entry))) ⌝ }
 {
     let none = [0u8; 0];
     let mut products = [0u8; 258];
@@ -229,7 +251,8 @@ fn make_p(stripe: &mut [u8], work: &mut [u8], ns: &[usize], d: usize, parities: 
 
 // Makes Q of the data.
 fn make_q(stripe: &mut [u8], work: &mut [u8], ns: &[usize], d: usize, parities: usize, b: usize)
-    requires { ⌜ Workable d parities b (now stripe) (now work) (now ns) × (2 ≤ parities) ⌝ }
+    requires { ⌜ Workable d parities b (now stripe) (now work) (now ns) ⌝ }
+    requires { ⌜ 2 ≤ parities ⌝ }
     ensures { λ _. ⌜ now (stripe .exit) ≡ eachColumn (replaced (d + 1) (parityQ d)) (d + parities) b (now (stripe .entry)) ⌝ }
 {
     let none = [0u8; 0];

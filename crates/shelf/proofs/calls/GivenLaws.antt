@@ -5,8 +5,8 @@ use mathlib.Core.List.{List, _++_}
 use mathlib.Core.Logic.{_≢_}
 use mathlib.Core.Option.{Option}
 use mathlib.Core.Path.{_≡_, refl, sym, ap, ap₂, _∙_, subst}
-use Prim.Native.Nat.{ℕ, _+_, _-_, _*_, _≤_, _<_}
-use native.Mathlib.Nat.{mul-le-mul-right}
+use Prim.Native.Nat.{ℕ, zero, suc, _+_, _-_, _*_, _≤_, _<_}
+use native.Mathlib.Nat.{mul-le-mul-right, suc-mul}
 use native.Mathlib.Decide.{ℕ-discrete}
 use native.Mathlib.Omega.{arith}
 use lib.Dec.{eqb, ltb}
@@ -14,16 +14,17 @@ use lib.ListN.{length, getD}
 use borrow.Author.Tests.{lt-ltb, le-ltb, eq-eqb, ne-eqb, ltb-true, ltb-false, eqb-true}
 use Rattle.stripe.specs.Blocks.{gen, block, put, byteOf}
 use Rattle.stripe.specs.Parity.{Recoverable, solved}
-use Rattle.stripe.specs.Places.{numbered, columnAt, byColumn, Tabled, Held}
-use Rattle.stripe.specs.Steps.{Gathers}
+use Rattle.stripe.specs.Places.{numbered, columnAt, byColumn}
+use Rattle.stripe.specs.below.Tables.{Tabled, Held}
+use Rattle.stripe.specs.below.Steps.{Gathers}
 use Rattle.stripe.proofs.Laws.{place-lt, array-byte, log-byte, solved-ignores, fits, length-block, getD-block, block-whole, length-gen, gen-ext, block-put-same, block-put-other, length-put}
 use Rattle.shelf.specs.Counting.{choose}
 use Rattle.shelf.specs.Members.{arrayMembers, memberAt, placeAt, wanted, addressOf, column, otherMissing, workedBack}
 use Rattle.shelf.specs.Calls.{orElse, original, blockAt}
 use Rattle.shelf.specs.Words.{words}
 use Rattle.shelf.specs.HashList.{noneWord, said, isRecord}
-use Rattle.shelf.specs.Lent.{lent, recordAt, stateOf, oriBy, flagAt, arrayBlock, arrayLength, bufferOf}
-use Rattle.shelf.specs.Reading.{Ready, latest, originalPlace, missingBy, solvedBlock, lostBlock, servedBlock}
+use Rattle.shelf.specs.Lent.{Lent, lent, recordAt, stateOf, oriBy, flagAt, arrayBlock, arrayLength, bufferOf}
+use Rattle.shelf.specs.below.Reading.{Ready, latest, originalPlace, missingBy, solvedBlock, lostBlock, servedBlock, servedTo}
 use Rattle.shelf.specs.declared.record.Geometry.{Geometry}
 use Rattle.shelf.specs.declared.record.Shelf.{Shelf}
 use Rattle.shelf.proofs.general.TestLaws.{cases, clash, choose-true, choose-false}
@@ -265,6 +266,11 @@ filled-turn b N f j out o len h size before e = (
   subst (λ (z : List ℕ). FilledTo b f (j + 1) z) (sym e) (filled-next b N f j out len h size before),
 )
 
+-- a buffer that is filled with all n blocks from address a on
+pub filled-all : (g : Geometry) (f : ℕ → ℕ → List ℕ) (a n j : ℕ) (out : List ℕ) → length out ≡ n * g .b → FilledTo (g .b) (wanted g f a) j out → j ≡ n → out ≡ bufferOf g f a n
+unfolding bufferOf
+filled-all g f a n j out size F e = blocksOf-back n (g .b) (wanted g f a) out size (λ k h. sym (F k (omega arith)))
+
 -- A walk over n blocks from address a on, before block j: where that block stands, and the first j blocks of out are the table's.
 pub record Walked (g : Geometry) (f : ℕ → ℕ → List ℕ) (a n j x i : ℕ) (out : List ℕ) : Type 0 where
   pub so-far : j ≤ n
@@ -294,5 +300,42 @@ module _ (g : Geometry) (f : ℕ → ℕ → List ℕ) (a n : ℕ) where
         record { so-far = omega (arith, h); size = turn .0; spot = omega (arith, next, W .spot); index = low; filled = turn .1 }
 
   pub walk-end : (j x i : ℕ) (out : List ℕ) → Walked g f a n j x i out → j ≡ n → out ≡ bufferOf g f a n
-  unfolding bufferOf
-  walk-end j x i out W e = blocksOf-back n (g .b) (wanted g f a) out (W .size) (λ k h. sym (W .filled k (omega arith)))
+  walk-end j x i out W e = filled-all g f a n j out (W .size) (W .filled) e
+
+-- ---- the blocks of a stripe put in, one after another
+
+module _ (h : Lent) (x i j : ℕ) where
+  pub served-start : (out : List ℕ) → out ≡ servedTo h x i j 0 out
+  unfolding servedTo
+  served-start out = refl
+
+  pub served-more : (k : ℕ) (out v o : List ℕ) → v ≡ servedTo h x i j k out → o ≡ put (h .shelf .geometry .b) (j + k) (servedBlock h x (i + k)) v
+      → o ≡ servedTo h x i j (k + 1) out
+  unfolding servedTo
+  served-more k out v o e q =
+      let z : suc k ≡ k + 1 = omega arith in
+      q ∙ ap (λ (y : List ℕ). put (h .shelf .geometry .b) (j + k) (servedBlock h x (i + k)) y) e ∙ ap (λ (m : ℕ). servedTo h x i j m out) z
+
+-- block j + k of j + m lies within the buffer
+pub served-room : (b j k m n : ℕ) → k < m → (j + m) * b ≤ n → (j + k) * b + b ≤ n
+served-room b j k m n h room = let up : suc (j + k) * b ≤ (j + m) * b = mul-le-mul-right b (omega arith) in let is = suc-mul (j + k) b in omega arith
+
+-- with m blocks of stripe x put in, a buffer that was filled up to block j is filled up to block j + m
+module _ (g : Geometry) (h : Lent) (e : h .shelf .geometry ≡ g) (a n x i j : ℕ) (at : x * g .d + i ≡ a + j) where
+  pub served-filled : (m : ℕ) → i + m ≤ g .d → j + m ≤ n → ((k : ℕ) → i + k < g .d → length (servedBlock h x (i + k)) ≡ g .b) → (out : List ℕ)
+      → length out ≡ n * g .b → FilledTo (g .b) (wanted g (servedBlock h) a) j out
+      → (length (servedTo h x i j m out) ≡ n * g .b) × FilledTo (g .b) (wanted g (servedBlock h) a) (j + m) (servedTo h x i j m out)
+  unfolding servedTo
+  served-filled zero low room sizes out len F =
+      let z : j ≡ j + 0 = omega arith in (len, subst (λ (k : ℕ). FilledTo (g .b) (wanted g (servedBlock h) a) k out) z F)
+  served-filled (suc m) low room sizes out len F =
+      let before = served-filled m (omega arith) (omega arith) sizes out len F in
+      let spot : x * g .d + (i + m) ≡ a + (j + m) = omega (arith, at) in
+      let here = spot-is (a + (j + m)) (g .d) x (i + m) spot (omega arith) in
+      let is : servedBlock h x (i + m) ≡ wanted g (servedBlock h) a (j + m) = ap₂ (servedBlock h) (here .0) (here .1) in
+      let turn =
+      filled-turn (g .b) n (wanted g (servedBlock h) a) (j + m) (servedTo h x i j m out) (put (h .shelf .geometry .b) (j + m) (servedBlock h x (i + m)) (servedTo h x i j m out)) (before .0)
+      (omega arith) (ap length (sym is) ∙ sizes m (omega arith)) (before .1)
+      (ap₂ (λ (b : ℕ) (z : List ℕ). put b (j + m) z (servedTo h x i j m out)) (ap (λ (k : Geometry). k .b) e) is) in
+      let z : j + m + 1 ≡ j + suc m = omega arith in
+      (turn .0, subst (λ (k : ℕ). FilledTo (g .b) (wanted g (servedBlock h) a) k (servedTo h x i j (suc m) out)) z (turn .1))

@@ -22,10 +22,10 @@ use Rattle.shelf.specs.State.{State, isSome, listed, marksIn, freshState
 use Rattle.shelf.specs.Calls.{withFlags, nextLeft, modeLeft, settled, dropped, afresh, made, remade, overwritten}
 use Rattle.shelf.specs.Words.{words}
 use Rattle.shelf.specs.HashList.{noneWord, Entry, entry, entries, said, valid}
-use Rattle.shelf.specs.Rewriting.{Rewritten, dropStripes, dropStripe}
-pub use Rattle.shelf.specs.Showing.{HoldsArray, HoldsList}
+use Rattle.shelf.specs.below.Rewriting.{Rewritten, dropStripes, dropStripe}
+pub use Rattle.shelf.specs.below.Showing.{HoldsArray, HoldsList}
 use Rattle.shelf.specs.Lent.{lent, recordAt, oriBy, curBy, arrayBlock, arrayLength, listedBy, listLength, flagsOf, recordOf, roleBlock, logOf, noneList, Leaves}
-use Rattle.shelf.specs.Records.{withListed}
+use Rattle.shelf.specs.below.Records.{withListed}
 use Rattle.shelf.specs.declared.record.Geometry.{Geometry}
 use Rattle.shelf.specs.declared.record.Shelf.{Shelf}
 use Rattle.shelf.proofs.general.TestLaws.{cases, choose-true, choose-false}

@@ -10,18 +10,20 @@ use lib.Dec.{ltb}
 use lib.ListN.{length, getD, set, length-set}
 use lib.Seq.{getD-set-same, getD-set-other}
 use borrow.Author.Tests.{ltb-true, ltb-false}
-use Rattle.shelf.specs.Counting.{count, any, Tests}
-use Rattle.shelf.specs.Members.{Sized, arrayMembers, memberAt}
+use Rattle.shelf.specs.Counting.{count, any}
+use Rattle.shelf.specs.below.Tables.{Tests}
+use Rattle.shelf.specs.below.Records.{Sized, failedRole, withCleared}
+use Rattle.shelf.specs.Members.{arrayMembers, memberAt}
 use Rattle.shelf.specs.State.{State, listed, stale, marksIn}
 use Rattle.shelf.specs.Status.{rebuild, arrayFailed, arraySound, withheld, dataWithheld, row, codeOf}
 use Rattle.shelf.specs.Calls.{nextLeft, modeLeft, settled, dropped, arrayCleared, rebuilt, work}
 use Rattle.shelf.specs.Words.{words}
-use Rattle.shelf.specs.HashList.{Measures, Lists, staleIn, valid}
+use Rattle.shelf.specs.below.Lists.{Measures, Lists, staleIn}
+use Rattle.shelf.specs.HashList.{valid}
 use Rattle.shelf.specs.Lent.{Lent, lent, flagAt, flagsOf, stateOf, listedBy, triesList, numberOf, recordOf, logOf, Leaves, Answered}
-use Rattle.shelf.specs.Records.{failedRole, withCleared}
-use Rattle.shelf.specs.Reading.{ListReady}
-use Rattle.shelf.specs.Rewriting.{Rewritten}
-use Rattle.shelf.specs.Rebuilding.{Rebuildable, parityFailedAt, dataFailedAt, withheldAt, rebuiltTo, rebuiltRecord, keptEntries}
+use Rattle.shelf.specs.below.Reading.{ListReady}
+use Rattle.shelf.specs.below.Rewriting.{Rewritten}
+use Rattle.shelf.specs.below.Rebuilding.{Rebuildable, parityFailedAt, dataFailedAt, withheldAt, rebuiltTo, rebuiltRecord, keptEntries}
 use Rattle.shelf.specs.declared.record.Geometry.{Geometry}
 use Rattle.shelf.specs.declared.record.Shelf.{Shelf}
 use Rattle.shelf.proofs.general.TestLaws.{cases, clash, choose-true, choose-false, and-false, and-left, and-right, same-bool}

@@ -17,14 +17,15 @@ use Rattle.stripe.specs.Parity.{Recoverable, solved}
 use Rattle.stripe.specs.Places.{place, parityMade}
 use Rattle.stripe.proofs.Laws.{fits, place-lt, place-inj, place-other, put-block, block-whole, block-put-same, block-put-other, length-put, getD-block, solved-ignores, second-filled, getD-gen, gen-ext}
 use Rattle.shelf.specs.Counting.{choose, count, any, first}
-use Rattle.shelf.specs.Members.{Sized, arrayMembers, memberAt, placeAt, addressOf, column, blockParity, otherMissing, workedBack}
+use Rattle.shelf.specs.below.Records.{Sized}
+use Rattle.shelf.specs.Members.{arrayMembers, memberAt, placeAt, addressOf, column, blockParity, otherMissing, workedBack}
 use Rattle.shelf.specs.State.{State, listed}
 use Rattle.shelf.specs.Calls.{settled, orElse, original, missing, blockAt, rebuilt}
 use Rattle.shelf.specs.Words.{words}
 use Rattle.shelf.specs.HashList.{noneWord, said, lookup}
 use Rattle.shelf.specs.Lent.{Lent, lent, flagAt, oriBy, curBy, listedBy, stateOf, arrayBlock, arrayLength, roleBlock}
-use Rattle.shelf.specs.Reading.{ListReady, Ready, latest, missingBy, solvedBlock, lostBlock, servedBlock}
-use Rattle.shelf.specs.Rebuilding.{Rebuildable, Lost, FilledBelow, parityFailedAt, stillMissing, withArray, filledAt, filledTo, stripeRebuilt, rebuiltTo}
+use Rattle.shelf.specs.below.Reading.{ListReady, Ready, latest, missingBy, solvedBlock, lostBlock, servedBlock}
+use Rattle.shelf.specs.below.Rebuilding.{Rebuildable, Lost, FilledBelow, parityFailedAt, stillMissing, withArray, filledAt, filledTo, stripeRebuilt, rebuiltTo}
 use Rattle.shelf.specs.declared.record.Geometry.{Geometry}
 use Rattle.shelf.specs.declared.record.Shelf.{Shelf}
 use Rattle.shelf.proofs.general.TestLaws.{cases, clash, choose-true, choose-false, and-left}

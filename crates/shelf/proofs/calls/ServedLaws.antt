@@ -8,23 +8,22 @@ use mathlib.Core.Path.{_≡_, refl, sym, ap, ap₂, _∙_, subst}
 use Prim.Native.Nat.{ℕ, _+_, _*_, _-_, _/_, _%_, _≤_, _<_}
 use native.Mathlib.Nat.{mul-le-mul, mul-comm, div-lt-iff-lt-mul, mod-lt}
 use native.Mathlib.Omega.{arith}
-use native.Mathlib.Decide.{ℕ-discrete, decLt}
+use native.Mathlib.Decide.{ℕ-discrete}
 use lib.Dec.{eqb, ltb}
-use lib.ListN.{length, getD, set}
-use lib.Seq.{getD-set-same, getD-set-other}
-use borrow.Author.Tests.{lt-ltb, le-ltb, eq-eqb, ne-eqb, ltb-true, ltb-false, eqb-true, eqb-false}
-use Rattle.stripe.specs.Places.{Tabled}
+use lib.ListN.{length}
+use borrow.Author.Tests.{lt-ltb, le-ltb, eq-eqb, ne-eqb, ltb-true, ltb-false, eqb-true}
 use Rattle.stripe.proofs.Laws.{one-to-one}
-use Rattle.shelf.specs.Counting.{choose, first}
+use Rattle.shelf.specs.Counting.{first}
 use Rattle.shelf.specs.Members.{InRange, arrayMembers, memberAt, placeAt, addressOf, wanted, otherMissing}
-use Rattle.shelf.specs.State.{isSome, stale}
+use Rattle.shelf.specs.State.{stale}
 use Rattle.shelf.specs.Status.{arrayFailed, badAddress, blockRows, withheld, fetchWithheld, readFailed}
 use Rattle.shelf.specs.Calls.{orElse}
 use Rattle.shelf.specs.Words.{words}
-use Rattle.shelf.specs.HashList.{Entry, entry, entryIn, noneWord, oriAt, curAt, lookup, said, valid, listedIn, staleIn}
+use Rattle.shelf.specs.HashList.{noneWord, said, valid}
+use Rattle.shelf.specs.below.Lists.{listedIn, staleIn}
 use Rattle.shelf.specs.Lent.{lent, recordAt, oriBy, listedBy, flagAt, inputRows}
-use Rattle.shelf.specs.Records.{failedRole}
-use Rattle.shelf.specs.Reading.{ListReady, Ready, latest, originalPlace, missingBy}
+use Rattle.shelf.specs.below.Records.{failedRole}
+use Rattle.shelf.specs.below.Reading.{ListReady, Ready, originalPlace}
 use Rattle.shelf.specs.declared.record.Geometry.{Geometry}
 use Rattle.shelf.specs.declared.record.Shelf.{Shelf}
 use Rattle.shelf.proofs.agreement.RowParity.{other-first, other-none}
@@ -34,53 +33,6 @@ use Rattle.shelf.proofs.general.WalkLaws.{first-is}
 use Rattle.shelf.proofs.general.CountLaws.{any-ext, any-none, none-any}
 use Rattle.shelf.proofs.numbers.TableRows.{blocks-zero}
 use Rattle.shelf.proofs.numbers.InputLaws.{Passed, inputs-pass, fine-record}
-
--- ---- what the list says of an address, from the place found for it
-
-module _ (w : List ℕ) (g : Geometry) (a p : ℕ) (e : p ≡ lookup w g a) where
-  said-at : p < g .e → said w g a ≡ entryIn w (g .h) p
-  unfolding said
-  said-at h =
-      choose-true (ltb (lookup w g a) (g .e)) (entryIn w (g .h) (lookup w g a)) (entry a noneWord noneWord)
-      (lt-ltb (lookup w g a) (g .e) (subst (λ (k : ℕ). k < g .e) e h))
-      ∙ ap (λ (k : ℕ). entryIn w (g .h) k) (sym e)
-
-  said-off : g .e ≤ p → said w g a ≡ entry a noneWord noneWord
-  unfolding said
-  said-off h =
-      choose-false (ltb (lookup w g a) (g .e)) (entryIn w (g .h) (lookup w g a)) (entry a noneWord noneWord)
-      (le-ltb (lookup w g a) (g .e) (subst (λ (k : ℕ). g .e ≤ k) e h))
-
-  pub ori-there : p < g .e → (o : ℕ) → o ≡ oriAt w (g .h) p → o ≡ said w g a .ori
-  ori-there h o q = q ∙ sym (ap (λ (x : Entry). x .ori) (said-at h))
-
-  pub ori-off : g .e ≤ p → noneWord ≡ said w g a .ori
-  ori-off h = sym (ap (λ (x : Entry). x .ori) (said-off h))
-
-  pub cur-there : p < g .e → (c : ℕ) → c ≡ curAt w (g .h) p → c ≡ said w g a .cur
-  cur-there h c q = q ∙ sym (ap (λ (x : Entry). x .cur) (said-at h))
-
-  pub cur-off : g .e ≤ p → noneWord ≡ said w g a .cur
-  cur-off h = sym (ap (λ (x : Entry). x .cur) (said-off h))
-
-  pub latest-off : g .e ≤ p → noneWord ≡ latest w g a
-  unfolding latest choose
-  latest-off h = sym (ap (λ (x : Entry). choose (eqb (x .cur) noneWord) (x .ori) (x .cur)) (said-off h))
-
-  pub latest-cur : p < g .e → (c : ℕ) → c ≡ curAt w (g .h) p → c ≢ noneWord → c ≡ latest w g a
-  unfolding latest
-  latest-cur h c q n =
-      sym (ap (λ (x : Entry). choose (eqb (x .cur) noneWord) (x .ori) (x .cur)) (said-at h)
-      ∙ ap (λ (v : ℕ). choose (eqb v noneWord) (oriAt w (g .h) p) v) (sym q)
-      ∙ choose-false (eqb c noneWord) (oriAt w (g .h) p) c (ne-eqb c noneWord n))
-
-  pub latest-ori : p < g .e → (c o : ℕ) → c ≡ curAt w (g .h) p → c ≡ noneWord → o ≡ oriAt w (g .h) p → o ≡ latest w g a
-  unfolding latest
-  latest-ori h c o q n r =
-      sym (ap (λ (x : Entry). choose (eqb (x .cur) noneWord) (x .ori) (x .cur)) (said-at h)
-      ∙ ap (λ (v : ℕ). choose (eqb v noneWord) (oriAt w (g .h) p) v) (sym q)
-      ∙ choose-true (eqb c noneWord) (oriAt w (g .h) p) c (eq-eqb c noneWord n)
-      ∙ sym r)
 
 -- ---- a word as a record
 
@@ -108,73 +60,6 @@ module _ (g : Geometry) (l : List ℕ) (x i : ℕ) where
       (λ t. sym (choose-true (ltb i (g .d)) (orElse (oriBy g l x i) (λ r. arrayMembers g * g .s + r) (placeAt g x i)) (placeAt g x i) t
       ∙ ap (λ (o : Option ℕ). orElse o (λ r. arrayMembers g * g .s + r) (placeAt g x i)) (record-none _ (h (ltb-true i (g .d) t)))))
       (λ t. sym (choose-false (ltb i (g .d)) (orElse (oriBy g l x i) (λ r. arrayMembers g * g .s + r) (placeAt g x i)) (placeAt g x i) t))
-
--- a table of block numbers: of the originals below i, of the array's blocks from i on
-pub record Overlaid (g : Geometry) (l : List ℕ) (x i : ℕ) (ns : List ℕ) : Type 0 where
-  pub below : (k : ℕ) → k < i → getD ns k 0 ≡ originalPlace g l x k
-  pub above : (k : ℕ) → i ≤ k → k < g .d + g .parities → getD ns k 0 ≡ placeAt g x k
-
-module _ (g : Geometry) (l : List ℕ) (x : ℕ) where
-  pub overlaid-start : (ns : List ℕ) → Tabled (g .d + g .parities) (placeAt g x) ns → Overlaid g l x 0 ns
-  overlaid-start ns t = record { below = λ k h. absurd (omega arith); above = λ k _ h. t k h }
-
-  -- an Ori's record is put in, or there is none
-  pub overlaid-log : (i v : ℕ) (ns : List ℕ) → i < g .d → i < length ns → v ≡ said (words l) g (addressOf g x i) .ori → v ≢ noneWord → Overlaid g l x i ns
-      → Overlaid g l x (i + 1) (set ns i ((g .d + g .parities) * g .s + v))
-  overlaid-log i v ns h low e n O =
-      record {
-        below = λ k p. elim (ℕ-discrete k i) [
-          | yes q ↦ ap (λ (m : ℕ). getD (set ns i ((g .d + g .parities) * g .s + v)) m 0) q ∙ getD-set-same ns i ((g .d + g .parities) * g .s + v) 0 low
-              ∙ number-log g l x i h v e n ∙ ap (originalPlace g l x) (sym q)
-          | no q ↦ getD-set-other ns i k ((g .d + g .parities) * g .s + v) 0 q ∙ O .below k (omega arith)
-        ];
-        above = λ k p q. getD-set-other ns i k ((g .d + g .parities) * g .s + v) 0 (λ z. omega arith) ∙ O .above k (omega arith) q;
-      }
-
-  pub overlaid-array : (i : ℕ) (ns : List ℕ) → i < g .d → said (words l) g (addressOf g x i) .ori ≡ noneWord → Overlaid g l x i ns → Overlaid g l x (i + 1) ns
-  overlaid-array i ns h e O =
-      record {
-        below = λ k p. elim (ℕ-discrete k i) [
-          | yes q ↦ O .above k (omega arith) (omega arith) ∙ ap (placeAt g x) q ∙ number-array g l x i (λ _. e) ∙ ap (originalPlace g l x) (sym q)
-          | no q ↦ O .below k (omega arith)
-        ];
-        above = λ k p q. O .above k (omega arith) q;
-      }
-
-  pub overlaid-all : (ns : List ℕ) → Overlaid g l x (g .d) ns → Tabled (g .d + g .parities) (originalPlace g l x) ns
-  overlaid-all ns O k h =
-      elim (decLt k (g .d)) [ yes p ↦ O .below k p | no p ↦ O .above k (omega arith) h ∙ number-array g l x k (λ q. absurd (p q)) ]
-
--- ---- which originals are missing
-
-module _ (r : Shelf) (l : List ℕ) (R : ListReady r l) (x i : ℕ) where
-  pub missing-listed : i < r .geometry .d → (p o : ℕ) → p ≡ lookup (words l) (r .geometry) (addressOf (r .geometry) x i) → p < r .geometry .e
-      → o ≡ oriAt (words l) (r .geometry .h) p → eqb o noneWord ≡ missingBy r l x i
-  missing-listed h p o e q t =
-      let v = said (words l) (r .geometry) (addressOf (r .geometry) x i) .ori in
-      let is : o ≡ v = ori-there (words l) (r .geometry) (addressOf (r .geometry) x i) p e q o t in
-      let shown : listedBy (r .geometry) l x i ≡ true =
-      listed-found (r .geometry) l (r .next) (r .listed) (R .range) (R .valid) x i
-      ∙ lt-ltb (lookup (words l) (r .geometry) (addressOf (r .geometry) x i)) (r .geometry .e) (subst (λ (k : ℕ). k < r .geometry .e) e q) in
-      sym (choose-true (ltb i (r .geometry .d) && listedBy (r .geometry) l x i) (not (isSome (oriBy (r .geometry) l x i)))
-      (flagAt r (memberAt (r .geometry) x i)) (ap₂ _&&_ (lt-ltb i (r .geometry .d) h) shown)
-      ∙ lacking o (oriBy (r .geometry) l x i) (ap recordAt (sym is)))
-    where
-      lacking : (o : ℕ) (k : Option ℕ) → k ≡ recordAt o → not (isSome k) ≡ eqb o noneWord
-      lacking o k e =
-          cases (eqb o noneWord)
-          (λ t. ap (λ (z : Option ℕ). not (isSome z)) (e ∙ record-none o (eqb-true o noneWord t)) ∙ unfold isSome in sym t)
-          (λ t. ap (λ (z : Option ℕ). not (isSome z)) (e ∙ record-some o (eqb-false o noneWord t)) ∙ unfold isSome in sym t)
-
-  pub missing-else : (i < r .geometry .d → r .geometry .e ≤ lookup (words l) (r .geometry) (addressOf (r .geometry) x i))
-      → flagAt r (memberAt (r .geometry) x i) ≡ missingBy r l x i
-  missing-else h =
-      sym (choose-false (ltb i (r .geometry .d) && listedBy (r .geometry) l x i) (not (isSome (oriBy (r .geometry) l x i)))
-      (flagAt r (memberAt (r .geometry) x i))
-      (cases (ltb i (r .geometry .d))
-      (λ t. ap₂ _&&_ t (listed-found (r .geometry) l (r .next) (r .listed) (R .range) (R .valid) x i
-      ∙ le-ltb (lookup (words l) (r .geometry) (addressOf (r .geometry) x i)) (r .geometry .e) (h (ltb-true i (r .geometry .d) t))))
-      (λ t. ap (λ (z : Bool). z && listedBy (r .geometry) l x i) t)))
 
 -- ---- the other missing role, from a walk upwards
 

@@ -21,7 +21,7 @@ use Rattle.shelf.specs.Words.{words}
 use Rattle.shelf.specs.HashList.{valid}
 use Rattle.shelf.specs.Lent.{Lent, flagAt, flagFrom, oriBy, curBy, stateOf, badRecord, noneList}
 use Rattle.shelf.specs.Clean.{Clean}
-use Rattle.shelf.specs.Showing.{HoldsList}
+use Rattle.shelf.specs.below.Showing.{HoldsList}
 use Rattle.shelf.specs.declared.record.Geometry.{Geometry}
 use Rattle.shelf.specs.declared.record.Shelf.{Shelf}
 use Rattle.shelf.proofs.general.CountLaws.{any-none, none-any}

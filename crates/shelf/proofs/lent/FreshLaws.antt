@@ -26,7 +26,7 @@ use Rattle.shelf.proofs.numbers.InputLaws.{measures-fine, record-fine, 
 use Rattle.shelf.proofs.hashlist.WordLaws.{words-bytes}
 use Rattle.shelf.proofs.lent.FormatLaws.{none-bytes}
 use Rattle.shelf.proofs.hashlist.ListMeaning.{encode-none, none-valid, none-said}
-use Rattle.shelf.specs.Showing.{HoldsList}
+use Rattle.shelf.specs.below.Showing.{HoldsList}
 use Rattle.shelf.proofs.hashlist.ListMarks.{none-record}
 use Rattle.shelf.proofs.lent.ListLayout.{list-laid}
 use Rattle.shelf.proofs.lent.LayoutLaws.{array-is, log-is, role-data, role-parity, by-role}

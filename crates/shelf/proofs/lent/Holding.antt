@@ -13,7 +13,8 @@ use lib.ListN.{length, List·getD-eq-default}
 use borrow.Author.Tests.{ne-eqb, le-ltb, leb-true, eqb-true}
 use Rattle.stripe.specs.Blocks.{block}
 use Rattle.shelf.specs.Counting.{bit, count, any}
-use Rattle.shelf.specs.Members.{Sized, InRange, logMember}
+use Rattle.shelf.specs.below.Records.{Sized}
+use Rattle.shelf.specs.Members.{InRange, logMember}
 use Rattle.shelf.specs.State.{State, isSome, listed, marksIn}
 use Rattle.shelf.specs.Status.{Call}
 use Rattle.shelf.specs.Calls.{code}
@@ -21,7 +22,7 @@ use Rattle.shelf.specs.Book.{Book, bookCode, bookAfter}
 use Rattle.shelf.specs.Words.{words}
 use Rattle.shelf.specs.HashList.{valid}
 use Rattle.shelf.specs.Lent.{Lent, lent, flag, flagFrom, flagAt, stateOf, arrayLength, logLength, listLength, numberOf, recordOf, flagsOf, listedBy, arrayOf, logOf, listOf, Leaves, Answered}
-use Rattle.shelf.specs.Showing.{HoldsList}
+use Rattle.shelf.specs.below.Showing.{HoldsList}
 use Rattle.shelf.specs.Sequence.{Fed, Changed}
 use Rattle.shelf.specs.declared.record.Geometry.{Geometry}
 use Rattle.shelf.specs.declared.record.Shelf.{Shelf}

@@ -3,39 +3,58 @@
 use mathlib.Core.List.{List}
 use mathlib.Core.Logic.{_≢_}
 use mathlib.Core.Bool.{Bool, true}
-use mathlib.Core.Path.{_≡_, sym, ap, _∙_}
+use mathlib.Core.Path.{_≡_, refl, sym, ap, _∙_}
 use Prim.Native.Nat.{ℕ, _+_, _<_}
 use native.Mathlib.Omega.{arith}
 use lib.Dec.{ltb}
 use borrow.Author.Tests.{ltb-false}
-use Rattle.shelf.specs.Members.{Sized}
+use Rattle.shelf.specs.Members.{InRange}
+use Rattle.shelf.specs.below.Records.{Sized, newLogRows, callOf}
 use Rattle.shelf.specs.Status.{fail, newLog, badMember, logSound, row, codeOf}
 use Rattle.shelf.specs.Lent.{flagAt, badMeasures, inputRows, triesList, listedBy, numberOf}
-use Rattle.shelf.specs.Records.{newLogRows}
 use Rattle.shelf.specs.declared.record.Shelf.{Shelf}
-use Rattle.shelf.proofs.numbers.InputLaws.{in-range, sized, inputs-pass, inputs-then, inputs-refuse}
+use Rattle.shelf.specs.declared.status.Request.{Request}
+use Rattle.shelf.proofs.numbers.InputLaws.{Passed, in-range, sized, inputs-pass, inputs-then, inputs-refuse}
 use Rattle.shelf.proofs.numbers.TableRows.{row-zero}
 use Rattle.shelf.proofs.hashlist.ListMarks.{marks-listed}
 
-module _ (r : Shelf) (na nl : ℕ) (l : List ℕ) where
-  -- what rows 1 to 3 give is the call's number, where it is not 0
-  pub code-refused : (three : Bool) (rest code : ℕ) → code ≡ inputRows r na nl l three 0 → code ≢ 0 → code ≡ inputRows r na nl l three rest
-  code-refused three rest code e z = e ∙ inputs-refuse r na nl l three rest (λ q. z (e ∙ q))
+-- ---- the number of a request
 
-  -- else it is what the rows of the call give
-  pub code-passed : (three : Bool) (rest code : ℕ) → inputRows r na nl l three 0 ≡ 0 → code ≡ rest → code ≡ inputRows r na nl l three rest
-  code-passed three rest code z e = e ∙ sym (inputs-then r na nl l three rest z)
+-- What a request that passes rows 1 to 3 has, q being its form: measures in range, a list that passes if it is tried, and as its number
+-- what the rows of the call give.
+pub record Admitted (r : Shelf) (na nl : ℕ) (list : List ℕ) (request : Request) : Type 0 where
+  pub range : InRange (r .geometry)
+  pub listing : (q : Request) → request ≡ q → triesList (callOf q) ≡ true → Passed r na nl list
+  pub number : (q : Request) → request ≡ q → (n : ℕ) → n ≡ codeOf (r .geometry) (flagAt r) (r .mode) (listedBy (r .geometry) list) (callOf q)
+      → n ≡ numberOf r na nl list (callOf request)
 
-  pub range-passed : (three : Bool) → inputRows r na nl l three 0 ≡ 0 → Sized (r .geometry)
-  unfolding inputRows
-  range-passed three z = sized (in-range (r .geometry) (row-zero 1 (badMeasures (r .geometry)) _ (λ z. omega arith) z .0))
+-- rows 1 to 3 give the code
+module _ (r : Shelf) (na nl : ℕ) (list : List ℕ) (request : Request) (three : Bool) (t : three ≡ triesList (callOf request)) (code : ℕ)
+    (e : code ≡ inputRows r na nl list three 0) where
+  inputs : (q : Request) → request ≡ q → code ≡ inputRows r na nl list (triesList (callOf q)) 0
+  inputs q is = e ∙ ap (λ (u : Bool). inputRows r na nl list u 0) (t ∙ ap (λ (p : Request). triesList (callOf p)) is)
 
+  pub refused : code ≢ 0 → code ≡ numberOf r na nl list (callOf request)
+  unfolding numberOf
+  refused z = inputs request refl ∙ inputs-refuse r na nl list (triesList (callOf request)) _ (λ q. z (inputs request refl ∙ q))
+
+  pub admitted : code ≡ 0 → Admitted r na nl list request
+  unfolding numberOf inputRows
+  admitted z =
+      record {
+        range = in-range (r .geometry) (row-zero 1 (badMeasures (r .geometry)) _ (λ z. omega arith) (sym e ∙ z) .0);
+        listing = λ q is true-of. inputs-pass r na nl list 0 (ap (λ (u : Bool). inputRows r na nl list u 0) (sym true-of) ∙ sym (inputs q is) ∙ z) .0;
+        number =
+            λ q is n h. h ∙ sym (inputs-then r na nl list (triesList (callOf q)) _ (sym (inputs q is) ∙ z))
+            ∙ ap (λ (p : Request). numberOf r na nl list (callOf p)) (sym is);
+      }
+
+module _ (r : Shelf) (na nl : ℕ) (list : List ℕ) where
   -- the record counts the listed blocks
-  pub new-log-is : inputRows r na nl l true 0 ≡ 0 → newLogRows r ≡ codeOf (r .geometry) (flagAt r) (r .mode) (listedBy (r .geometry) l) newLog
+  pub new-log-is : Passed r na nl list → newLogRows r ≡ codeOf (r .geometry) (flagAt r) (r .mode) (listedBy (r .geometry) list) newLog
   unfolding codeOf
-  new-log-is z =
-      let P = inputs-pass r na nl l 0 z .0 in
-      ap (λ (n : ℕ). row 12 (logSound (r .geometry) (flagAt r)) (row 13 (ltb 0 n) 0)) (sym (marks-listed (r .geometry) l (r .next) (r .listed) (P .range) (P .valid)))
+  new-log-is P =
+      ap (λ (n : ℕ). row 12 (logSound (r .geometry) (flagAt r)) (row 13 (ltb 0 n) 0)) (sym (marks-listed (r .geometry) list (r .next) (r .listed) (P .range) (P .valid)))
 
 -- ---- what an accepted call gives its method
 

@@ -11,10 +11,12 @@ use lib.Dec.{eqb, ltb}
 use lib.ListN.{length}
 use borrow.Author.Tests.{eq-eqb, le-ltb, eqb-true, ltb-false}
 use Rattle.shelf.specs.Counting.{count, any}
-use Rattle.shelf.specs.Members.{InRange, Sized, logMember, allMembers}
+use Rattle.shelf.specs.Members.{InRange, logMember, allMembers}
+use Rattle.shelf.specs.below.Records.{Sized}
 use Rattle.shelf.specs.Status.{Call, codeOf}
 use Rattle.shelf.specs.Words.{words}
-use Rattle.shelf.specs.HashList.{Measures, valid}
+use Rattle.shelf.specs.below.Lists.{Measures}
+use Rattle.shelf.specs.HashList.{valid}
 use Rattle.shelf.specs.Lent.{flagAt, flagFrom, outside, badMeasures, badRecord, badLengths, badList, arrayLength, logLength, listLength, triesList, inputRows, listedBy, numberOf}
 use Rattle.shelf.specs.declared.record.Geometry.{Geometry}
 use Rattle.shelf.specs.declared.record.Shelf.{Shelf}

@@ -309,6 +309,7 @@ impl Work {
         if self.record.mode != 1 || lacks_records || lacks_places {
             return self.write_through(part);
         }
+        self.note_places(part.stripe, places);
         self.log_part(&part, pre_read);
         self.put(&part);
     }
@@ -328,6 +329,16 @@ impl Work {
         self.events.add(Event::WriteLogsAfterDroppingLast, logs && again);
     }
 
+    /// Notes which others are listed where a stripe's blocks are listed anew: of stripes above it, of stripes below it,
+    /// and of its own.
+    fn note_places(&mut self, stripe: usize, places: usize) {
+        let own = self.addresses(stripe);
+        let (below, above) = (self.entries.range(..own.start).count(), self.entries.range(own.end..).count());
+        self.events.add(Event::WritePutsBelow, places > 0 && above > 0);
+        self.events.add(Event::WritePutsAbove, places > 0 && below > 0);
+        self.events.add(Event::WriteAddsToStale, places > 0 && below + above < self.entries.len());
+    }
+
     /// The disks get a stripe's new blocks.
     fn put(&mut self, part: &Part) {
         let members = roles::members(self.m, part.stripe);
@@ -343,6 +354,8 @@ impl Work {
         self.make_parity(part.stripe);
         self.drop_listed(part.stripe);
         let left = self.entries.len();
+        let below = self.entries.range(..part.stripe * self.m.d).count();
+        self.events.add(Event::WriteDropsAbove, below > 0 && left < listed);
         self.events.add(Event::WriteDropsSome, 0 < left && left < listed);
         self.events.add(Event::WriteDropsLastAccelerating, left == 0 && listed > 0 && mode == 1);
         self.events.add(Event::WriteDropsLastTransitional, left == 0 && listed > 0 && mode == 2);

@@ -4,43 +4,41 @@ use mathlib.Core.Path.{_≡_, subst, sym}
 use Prim.Native.Nat.{ℕ, _+_, _*_, _≤_}
 use lib.ListN.{length}
 use native.Mathlib.Omega.{arith}
-use Rattle.stripe.specs.Steps.{Gathers}
+use Rattle.stripe.specs.below.Steps.{Gathers}
 use Rattle.shelf.proofs.calls.GivenLaws.{held-all, gathers, worked-by}
 use Rattle.stripe.proofs.Laws.{two-at-least, differ}
 use Rattle.shelf.proofs.numbers.InputLaws.{array-small, sized}
-use borrow.Author.Needs.{needs}
+use borrow.Author.Needs.{length-unmapped, needs}
 use Rattle.shelf.proofs.fetch.solve_originals.Statement.{statement}
 use Rattle.shelf.proofs.fetch.solve_originals.Tie as tie
 
-original-numbers-requires : tie.Need-original-numbers-requires
-original-numbers-requires c κs = (c .before .before .before .before .before .before .pre .0 .listing, c .before .before .before .before .before .before .pre .1 .0)
-
 array-members-requires : tie.Need-array-members-requires
-array-members-requires c κs = sized (c .before .before .before .before .before .before .before .pre .0 .listing .range)
+array-members-requires c κs = sized (c .before .before .before .before .before .before .before .pre .0 .working .ready .listing .range)
 
 mul-solve : tie.Need-mul-solve
 mul-solve c =
     let a = c .before .before .before .before .before .before .before .before .before in
-    rw (c .before .array-members .ensures) (omega (arith, array-small (a .args .shelf .geometry) (a .pre .0 .listing .range) .0))
+    rw (c .before .array-members .ensures) (omega (arith, array-small (a .args .shelf .geometry) (a .pre .0 .working .ready .listing .range) .0))
 
 slice-aggregate-solve : tie.Need-slice-aggregate-solve
-slice-aggregate-solve c = search needs
+slice-aggregate-solve c = let a = c .before .before .before .before .before .before .before .before .before .before in sym (length-unmapped ℕ (a .args .from .originals) 18 (a .good .1 .1 .1 .1 .0 .1 .1 .1 .0 .1 .0 .1))
 
 solve-requires : tie.Need-solve-requires
 solve-requires c κs =
     let a = c .before .before .before .before .before .before .before .before .before .before .before .before in
-    let ns = c .before .before .before .before .before .original-numbers in
-    let long : length (ns .result) ≡ 18 = search needs in
-    let most : a .args .shelf .geometry .d + a .args .shelf .geometry .parities ≤ length (ns .result) = omega (arith, long, a .pre .0 .listing .range .d-most, a .pre .0 .listing .range .parities-most) in (
-      subst (λ (m : ℕ). Gathers (a .args .shelf .geometry .d) (m * a .args .shelf .geometry .s) (a .args .shelf .geometry .b) (a .args .array .now) (a .args .log .now) (ns .result) (a .args .work .now)) (sym (c .before .before .before .before .array-members .ensures))
-          (gathers (a .args .shelf) (a .args .array .now) (a .args .log .now) (a .args .list .now) (a .pre .0) (a .args .x) (a .pre .1 .0) (ns .result) (a .args .work .now) most (ns .ensures) (a .pre .1 .1 .1 .1 .0)),
+    let w = a .pre .0 in
+    let g = a .args .shelf .geometry in
+    let long : length (a .args .from .originals) ≡ 18 = length-unmapped ℕ (a .args .from .originals) 18 (a .good .1 .1 .1 .1 .0 .1 .1 .1 .0 .1 .0 .1) in
+    let most : g .d + g .parities ≤ length (a .args .from .originals) = omega (arith, long, w .working .ready .listing .range .d-most, w .working .ready .listing .range .parities-most) in (
+      subst (λ (m : ℕ). Gathers (g .d) (m * g .s) (g .b) (a .args .array .now) (a .args .log .now) (a .args .from .originals) (a .args .work .now)) (sym (c .before .before .before .before .array-members .ensures))
+          (gathers (a .args .shelf) (a .args .array .now) (a .args .log .now) (a .args .list .now) (w .working .ready) (a .args .x) (w .stripe) (a .args .from .originals) (a .args .work .now) most (w .sources .numbers) (w .working .block)),
       (
-        a .pre .1 .1 .1 .1 .1,
+        w .working .products,
         (
-          a .pre .1 .1 .0,
+          w .index,
           λ e.
-              held-all (a .args .shelf) (a .args .array .now) (a .args .log .now) (a .args .list .now) (a .pre .0) (a .args .x) (a .pre .1 .0) (ns .result) most (ns .ensures) (a .args .shelf .geometry .d + 2)
-              (let two = two-at-least (a .args .shelf .geometry .parities) (a .args .i) (a .args .y) (a .pre .1 .1 .1 .0) (differ (a .args .shelf .geometry .d) (a .args .i) (a .args .y) e) in omega arith),
+              held-all (a .args .shelf) (a .args .array .now) (a .args .log .now) (a .args .list .now) (w .working .ready) (a .args .x) (w .stripe) (a .args .from .originals) most (w .sources .numbers) (g .d + 2)
+              (let two = two-at-least (g .parities) (a .args .i) (a .args .y) (a .pre .1) (differ (g .d) (a .args .i) (a .args .y) e) in omega arith),
         ),
       ),
     )
@@ -54,15 +52,14 @@ same-length-2 c = search needs
 returns : tie.Need-returns
 returns c =
     let a = c .before .before .before .before .before .before .before .before .before .before .before .before .before .before .before .before .before in
-    let ns = c .before .before .before .before .before .before .before .before .before .before .original-numbers in
     let solve = c .before .before .before .before .solve in
-    (worked-by (a .args .shelf) (a .args .array .now) (a .args .log .now) (a .args .list .now) (a .pre .0) (a .args .x) (a .pre .1 .0) (a .args .i) (a .args .y) (ns .result) (solve .last .1 .1 .1 .1 .0) (a .pre .1 .1 .0) (a .pre .1 .1 .1 .0) (ns .ensures) (solve .ensures .0), solve .ensures .1)
+    let w = a .pre .0 in
+    (worked-by (a .args .shelf) (a .args .array .now) (a .args .log .now) (a .args .list .now) (w .working .ready) (a .args .x) (w .stripe) (a .args .i) (a .args .y) (a .args .from .originals) (solve .last .1 .1 .1 .1 .0) (w .index) (a .pre .1) (w .sources .numbers) (solve .ensures .0), solve .ensures .1)
 
 pub solve-originals-spec : {M : Type 1} → statement M
 solve-originals-spec =
     tie.close
     (tie.spec
-    original-numbers-requires
     array-members-requires
     mul-solve
     slice-aggregate-solve

@@ -20,7 +20,7 @@ make-p-at-requires c κs =
     let a = c .before .before .before .before .args in
     let table = c .before .before .block-numbers in
     let long : a .d + 1 ≤ length (table .result) = search needs in
-    (search needs, (search needs, (search needs, placed (a .layout) (a .d) 1 (a .stripes) (a .s) (a .b) (length (a .array .now)) (table .result) (c .before .before .before .before .pre) long (table .ensures))))
+    (search needs, (search needs, (search needs, placed (a .layout) (a .d) 1 (a .stripes) (a .x) (a .b) (length (a .array .now)) (table .result) (c .before .before .before .before .pre) long (table .ensures))))
 
 same-length : tie.Need-same-length
 same-length c = search needs
@@ -30,7 +30,7 @@ unfolding numbered
 returns c =
     let a = c .before .before .before .before .before .before .before .args in
     let table = c .before .before .before .before .before .block-numbers in
-    c .before .before .make-p-at .ensures ∙ parityMade-ext (numbered (table .result)) (place (a .layout) (a .d) 1 (a .stripes) (a .s)) (a .d) 1 (a .b) (a .array .now) (table .ensures)
+    c .before .before .make-p-at .ensures ∙ parityMade-ext (numbered (table .result)) (place (a .layout) (a .d) 1 (a .stripes) (a .x)) (a .d) 1 (a .b) (a .array .now) (table .ensures)
 
 pub make-array-p-spec : {M : Type 1} → statement M
 make-array-p-spec =

@@ -6,7 +6,7 @@ use native.Mathlib.Nat.{le-refl}
 use native.Mathlib.Omega.{arith}
 use lib.ListN.{length, getD}
 use borrow.Author.Needs.{needs}
-use Rattle.stripe.specs.Steps.{Starts, later, byStart}
+use Rattle.stripe.specs.below.Steps.{Starts, later, byStart}
 use Rattle.stripe.proofs.Sums.{plainFrom}
 use Rattle.stripe.proofs.ParityLaws.{p-none, p-next, p-last}
 use Rattle.stripe.proofs.parity.plain_sum.Statement.{statement}

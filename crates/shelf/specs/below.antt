@@ -1,0 +1,9 @@
+pub mod Tables
+pub mod Lists
+pub mod Records
+pub mod Checking
+pub mod Rewriting
+pub mod Rebuilding
+pub mod Reading
+pub mod Showing
+pub mod Writing
