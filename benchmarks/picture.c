@@ -2,6 +2,7 @@
      picture FILE..  */
 #include "results.h"
 
+#include <math.h>
 #include <stdio.h>
 
 enum { WIDTH = 880, MARGIN = 20, HEAD = 84, FOOT = 34 };
@@ -147,6 +148,10 @@ int main(int argc, char **argv)
     read_passes(argc - 1, argv + 1);
     unsigned height = HEAD + PANELS / 2 * panel_height() + FOOT;
     double most = highest();
+    if (!isfinite(most)) {
+        fprintf(stderr, "picture: a pass has a time of 0\n");
+        return 1;
+    }
     printf("<svg xmlns=\"http://www.w3.org/2000/svg\" width=\"%d\" height=\"%u\" viewBox=\"0 0 %d %u\" font-family=\"sans-serif\""
            " fill=\"#222\">\n<rect width=\"%d\" height=\"%u\" rx=\"6\" fill=\"#fff\"/>\n", WIDTH, height, WIDTH, height, WIDTH, height);
     print_head();
