@@ -89,8 +89,8 @@ fn make_gap(list: &mut [u8], h: usize, p: usize, m: usize, c: usize)
     move_up(list, h, p, m, c);
 }
 
-// Takes the places from p on, below q, out of a list of n entries that passes number 3. Those behind
-// are moved down and links lowered, and the places left over are none.
+// Takes the places from p on, below q, out of a list of n entries that passes number 3. Those behind are moved down and links lowered,
+// and the places left over are none.
 pub fn take_out(list: &mut [u8], g: record::Geometry, p: usize, q: usize, n: usize)
     requires { ⌜ Measures g (now list) ⌝ }
     requires { ⌜ Lists (words (now list)) g n ⌝ }
@@ -172,7 +172,8 @@ pub fn put_places(list: &mut [u8], h: usize, e: usize, i: usize, y: &[u32], c: u
     }
 }
 
-// Whether of n listed places the c from p on have the addresses of the c entries of y, and the one behind them has an address from end on.
+// Whether of n listed places the c from p on have the addresses of the c entries of y, and the one behind them, where there is one, has
+// an address from end on.
 pub fn stand_in(list: &[u8], h: usize, n: usize, end: usize, p: usize, y: &[u32], c: usize) -> bool
     requires { ⌜ p ≤ n ⌝ }
     requires { ⌜ c ≤ 4096 ⌝ }

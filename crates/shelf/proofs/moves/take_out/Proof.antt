@@ -6,7 +6,7 @@ use native.Mathlib.Omega.{arith}
 use lib.ListN.{length}
 use Rattle.shelf.specs.declared.record.Geometry.{Geometry}
 use Rattle.shelf.specs.Words.{words}
-use Rattle.shelf.proofs.hashlist.FoundLaws.{listed-room}
+use Rattle.shelf.proofs.hashlist.OrderLaws.{lists-room}
 use Rattle.shelf.proofs.hashlist.WordLaws.{length-words}
 use Rattle.shelf.proofs.hashlist.LinkLaws.{upward, upward-kept, taken-out}
 use borrow.Author.Needs.{needs}
@@ -22,7 +22,7 @@ lower-heads-requires c κs =
     let v = st .pre .1 .0 in
     let pq = st .pre .1 .1 .0 in
     let qn = st .pre .1 .1 .1 in
-    let room = listed-room (words (a .list .now)) g (v .next) (a .n) (m .h0) (m .d0) (m .e1) (v .passing) in
+    let room = lists-room (a .list .now) g (a .n) m v in
     ((pq, (omega (arith, m .e1), (m .h1, omega (arith, m .len)))), (λ q o l. upward (words (a .list .now)) g (v .next) (a .n) (m .h0) (m .d0) (m .e1) (v .passing) q (omega arith)))
 
 lower-nexts-requires : tie.Need-lower-nexts-requires
@@ -34,7 +34,7 @@ lower-nexts-requires c κs =
     let v = st .pre .1 .0 in
     let pq = st .pre .1 .1 .0 in
     let qn = st .pre .1 .1 .1 in
-    let room = listed-room (words (a .list .now)) g (v .next) (a .n) (m .h0) (m .d0) (m .e1) (v .passing) in
+    let room = lists-room (a .list .now) g (a .n) m v in
     let r = c .before .before .before .lower-heads in
     let len : length (r .last .0) ≡ 4 * (g .h + 4 * g .e) = search needs in (
       (pq, (omega (arith, m .e1), (m .h1, omega arith))),
@@ -50,7 +50,7 @@ move-down-requires c κs =
     let v = st .pre .1 .0 in
     let pq = st .pre .1 .1 .0 in
     let qn = st .pre .1 .1 .1 in
-    let room = listed-room (words (a .list .now)) g (v .next) (a .n) (m .h0) (m .d0) (m .e1) (v .passing) in
+    let room = lists-room (a .list .now) g (a .n) m v in
     let r = c .before .before .before .lower-nexts in
     let len : length (r .last .0) ≡ 4 * (g .h + 4 * g .e) = search needs in
     (pq, (qn, (omega (arith, m .e1), (m .h1, omega arith))))
@@ -58,74 +58,44 @@ move-down-requires c κs =
 sub-fill-from : tie.Need-sub-fill-from
 sub-fill-from c =
     let st = c .before .before .before .before .before .before .before .before .before .before .before .before .before .before in
-    let a = st .args in
-    let g : Geometry = a .g in
     let m = st .pre .0 in
-    let v = st .pre .1 .0 in
-    let pq = st .pre .1 .1 .0 in
-    let qn = st .pre .1 .1 .1 in
-    let room = listed-room (words (a .list .now)) g (v .next) (a .n) (m .h0) (m .d0) (m .e1) (v .passing) in
-    omega (arith, m .e1, m .h1)
+    let room = lists-room (st .args .list .now) (st .args .g) (st .args .n) m (st .pre .1 .0) in
+    omega (arith, room, st .pre .1 .1 .1, m .e1, m .h1)
 
 sub-fill-from-2 : tie.Need-sub-fill-from-2
 sub-fill-from-2 c =
     let st = c .before .before .before .before .before .before .before .before .before .before .before .before .before .before in
-    let a = st .args in
-    let g : Geometry = a .g in
     let m = st .pre .0 in
-    let v = st .pre .1 .0 in
-    let pq = st .pre .1 .1 .0 in
-    let qn = st .pre .1 .1 .1 in
-    let room = listed-room (words (a .list .now)) g (v .next) (a .n) (m .h0) (m .d0) (m .e1) (v .passing) in
-    omega (arith, m .e1, m .h1)
+    let room = lists-room (st .args .list .now) (st .args .g) (st .args .n) m (st .pre .1 .0) in
+    omega (arith, room, st .pre .1 .1 .1, m .e1, m .h1)
 
 mul-fill-from : tie.Need-mul-fill-from
 mul-fill-from c =
     let st = c .before .before .before .before .before .before .before .before .before .before .before .before .before .before in
-    let a = st .args in
-    let g : Geometry = a .g in
     let m = st .pre .0 in
-    let v = st .pre .1 .0 in
-    let pq = st .pre .1 .1 .0 in
-    let qn = st .pre .1 .1 .1 in
-    let room = listed-room (words (a .list .now)) g (v .next) (a .n) (m .h0) (m .d0) (m .e1) (v .passing) in
-    omega (arith, m .e1, m .h1)
+    let room = lists-room (st .args .list .now) (st .args .g) (st .args .n) m (st .pre .1 .0) in
+    omega (arith, room, st .pre .1 .1 .1, m .e1, m .h1)
 
 add-fill-from : tie.Need-add-fill-from
 add-fill-from c =
     let st = c .before .before .before .before .before .before .before .before .before .before .before .before .before .before in
-    let a = st .args in
-    let g : Geometry = a .g in
     let m = st .pre .0 in
-    let v = st .pre .1 .0 in
-    let pq = st .pre .1 .1 .0 in
-    let qn = st .pre .1 .1 .1 in
-    let room = listed-room (words (a .list .now)) g (v .next) (a .n) (m .h0) (m .d0) (m .e1) (v .passing) in
-    omega (arith, m .e1, m .h1)
+    let room = lists-room (st .args .list .now) (st .args .g) (st .args .n) m (st .pre .1 .0) in
+    omega (arith, room, st .pre .1 .1 .1, m .e1, m .h1)
 
 mul-fill-from-2 : tie.Need-mul-fill-from-2
 mul-fill-from-2 c =
     let st = c .before .before .before .before .before .before .before .before .before .before .before .before .before .before in
-    let a = st .args in
-    let g : Geometry = a .g in
     let m = st .pre .0 in
-    let v = st .pre .1 .0 in
-    let pq = st .pre .1 .1 .0 in
-    let qn = st .pre .1 .1 .1 in
-    let room = listed-room (words (a .list .now)) g (v .next) (a .n) (m .h0) (m .d0) (m .e1) (v .passing) in
-    omega (arith, m .e1, m .h1)
+    let room = lists-room (st .args .list .now) (st .args .g) (st .args .n) m (st .pre .1 .0) in
+    omega (arith, room, st .pre .1 .1 .1, m .e1, m .h1)
 
 add-fill-from-2 : tie.Need-add-fill-from-2
 add-fill-from-2 c =
     let st = c .before .before .before .before .before .before .before .before .before .before .before .before .before .before in
-    let a = st .args in
-    let g : Geometry = a .g in
     let m = st .pre .0 in
-    let v = st .pre .1 .0 in
-    let pq = st .pre .1 .1 .0 in
-    let qn = st .pre .1 .1 .1 in
-    let room = listed-room (words (a .list .now)) g (v .next) (a .n) (m .h0) (m .d0) (m .e1) (v .passing) in
-    omega (arith, m .e1, m .h1)
+    let room = lists-room (st .args .list .now) (st .args .g) (st .args .n) m (st .pre .1 .0) in
+    omega (arith, room, st .pre .1 .1 .1, m .e1, m .h1)
 
 fill-from-requires : tie.Need-fill-from-requires
 fill-from-requires c κs =
@@ -136,7 +106,7 @@ fill-from-requires c κs =
     let v = st .pre .1 .0 in
     let pq = st .pre .1 .1 .0 in
     let qn = st .pre .1 .1 .1 in
-    let room = listed-room (words (a .list .now)) g (v .next) (a .n) (m .h0) (m .d0) (m .e1) (v .passing) in
+    let room = lists-room (a .list .now) g (a .n) m v in
     let r = c .before .before .before .move-down in
     let len : length (r .last .0) ≡ 4 * (g .h + 4 * g .e) = search needs in
     (omega (arith, m .e1, m .h1), omega arith)
@@ -153,7 +123,6 @@ returns c =
     let v = st .pre .1 .0 in
     let pq = st .pre .1 .1 .0 in
     let qn = st .pre .1 .1 .1 in
-    let room = listed-room (words (a .list .now)) g (v .next) (a .n) (m .h0) (m .d0) (m .e1) (v .passing) in
     let r = c .before .before .fill-from in
     let len : length (r .last .0) ≡ 4 * (g .h + 4 * g .e) = search needs in
     let heads = c .before .before .before .before .before .before .before .before .before .before .before .before .before .before .lower-heads in
