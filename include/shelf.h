@@ -25,7 +25,7 @@ extern "C" {
 #endif
 
 /* The version, which rises with each change that a caller can see. */
-#define SHELF_VERSION 7
+#define SHELF_VERSION 8
 
 /* The ranges of the measures. */
 #define SHELF_MIN_DATA 2
@@ -68,13 +68,15 @@ extern "C" {
 #define SHELF_BAD_LIST 3        /* the list is impossible, or not in its one arrangement */
 #define SHELF_BAD_ADDRESS 4     /* count is 0, or address + count is above d * S, as a sum without overflow */
 #define SHELF_BAD_DATA 5        /* data_len is not count * B */
-#define SHELF_BAD_MEMBER 6      /* the member is above d + parities, which is the log */
+#define SHELF_BAD_MEMBER 6      /* the member is above the log, d + parities (shelf_fail); it is the log or above
+                                 * (shelf_put_back) */
 #define SHELF_WRONG_MODE 7      /* the mode is not 0 (shelf_start); the mode is 0 (shelf_resync) */
 #define SHELF_ARRAY_FAILED 8    /* a member of the array has failed */
 #define SHELF_LOG_FAILED 9      /* the log has failed */
 #define SHELF_ALREADY_FAILED 10 /* the member has already failed */
 #define SHELF_LIMIT_REACHED 11  /* as many members have already failed as there are parities */
-#define SHELF_NOT_FAILED 12     /* no array member has failed (shelf_rebuild); the log is sound (shelf_new_log) */
+#define SHELF_NOT_FAILED 12     /* the member has not failed (shelf_put_back); no array member has failed
+                                 * (shelf_rebuild); the log is sound (shelf_new_log) */
 #define SHELF_LISTED 13         /* blocks are listed */
 #define SHELF_WITHHELD 14       /* the log has failed, and a block that is asked for (shelf_fetch), or any data block
                                  * (shelf_rebuild), is on a failed member in a stale stripe; never with one parity */
@@ -169,6 +171,17 @@ SHELF_ANSWER struct shelf_answer shelf_start(struct shelf_record shelf, const ui
 SHELF_ANSWER struct shelf_answer shelf_fail(struct shelf_record shelf, size_t member, const uint8_t *array,
                                             size_t array_len, const uint8_t *log, size_t log_len, const uint8_t *list,
                                             size_t list_len);
+
+/* Takes back that a member of the array has failed: a sound disk was pulled and pushed in again. It is for the same
+ * disk, to which nothing was written since shelf_fail; the library does not look, and docs/MANUAL.md says more.
+ *
+ *   member   0 to d + parities - 1: not the log
+ *
+ * Answers 0, 1, 2, 3, 6 or 12. Stores nothing. The record handed back is the given one with the member's flag cleared.
+ */
+SHELF_ANSWER struct shelf_answer shelf_put_back(struct shelf_record shelf, size_t member, const uint8_t *array,
+                                                size_t array_len, const uint8_t *log, size_t log_len,
+                                                const uint8_t *list, size_t list_len);
 
 /* Writes blocks. The stripes are taken in rising order, and each is finished before the next:
  *
@@ -276,7 +289,8 @@ static inline size_t shelf_list_len(struct shelf_geometry g)
     return shelf_in_range(g) ? 4 * g.h + 16 * g.e : 0;
 }
 
-/* The number of the log as a member, for shelf_fail. The members of the array are those below it. */
+/* The number of the log as a member, for shelf_fail. The members of the array, which shelf_put_back takes, are those
+ * below it. */
 static inline size_t shelf_log_member(struct shelf_geometry g)
 {
     return g.d + g.parities;
@@ -311,7 +325,7 @@ SHELF_ANSWER static inline bool shelf_load(const uint8_t bytes[SHELF_RECORD_BYTE
     X(SHELF_BAD_LIST, "the list is damaged")                                      \
     X(SHELF_BAD_ADDRESS, "no such blocks")                                        \
     X(SHELF_BAD_DATA, "the data have not the length of the blocks")               \
-    X(SHELF_BAD_MEMBER, "no such member")                                         \
+    X(SHELF_BAD_MEMBER, "no such member for this call")                           \
     X(SHELF_WRONG_MODE, "not in this mode")                                       \
     X(SHELF_ARRAY_FAILED, "a member of the array has failed")                     \
     X(SHELF_LOG_FAILED, "the log has failed")                                     \

@@ -30,7 +30,7 @@ extern "C" {
 #endif
 
 /* The version, which rises with each change that a caller can see; docs/MANUAL.md of the source lists them. */
-#define STRIPE_VERSION 7
+#define STRIPE_VERSION 8
 
 /* The ranges of d, parities and b. */
 #define STRIPE_MIN_DATA 2

@@ -11,13 +11,14 @@
 typedef uint32_t (*make_call)(uint32_t, uint32_t, uint32_t, uint8_t *, size_t);
 typedef uint32_t (*recover_call)(uint32_t, uint32_t, uint32_t, uint32_t, uint32_t, uint8_t *, size_t);
 
-/* Format stores into all three buffers; start and new log only look at them, and fail takes a member besides. */
+/* Format stores into all three buffers; start and new log only look at them, and fail and put back take a member
+ * besides. */
 typedef struct shelf_answer (*format_call)(struct shelf_record, uint8_t *, size_t, uint8_t *, size_t, uint8_t *,
                                            size_t);
 typedef struct shelf_answer (*look_call)(struct shelf_record, const uint8_t *, size_t, const uint8_t *, size_t,
                                          const uint8_t *, size_t);
-typedef struct shelf_answer (*fail_call)(struct shelf_record, size_t, const uint8_t *, size_t, const uint8_t *, size_t,
-                                         const uint8_t *, size_t);
+typedef struct shelf_answer (*member_call)(struct shelf_record, size_t, const uint8_t *, size_t, const uint8_t *,
+                                           size_t, const uint8_t *, size_t);
 
 /* Write looks at the caller's data and stores into the rest; both reads, the plain one and fetch, do the reverse. */
 typedef struct shelf_answer (*write_call)(struct shelf_record, size_t, size_t, const uint8_t *, size_t, uint8_t *,
@@ -158,8 +159,8 @@ static struct shelf_answer on(look_call call, struct shelf_record shelf)
     return call(shelf, array, array_len, log_bytes, sizeof log_bytes, list, sizeof list);
 }
 
-/* Has a member of that shelf fail. */
-static struct shelf_answer member_of(fail_call call, struct shelf_record shelf, size_t member)
+/* Has a member of that shelf fail or put back. */
+static struct shelf_answer member_of(member_call call, struct shelf_record shelf, size_t member)
 {
     return call(shelf, member, array, array_len, log_bytes, sizeof log_bytes, list, sizeof list);
 }
@@ -331,6 +332,71 @@ static int both_reads(struct shelf_record shelf, size_t number)
     return 0;
 }
 
+/* On that shelf with block 1 logged as 7, disks 0 and 1 failed and overwritten: disk 0 gets its zeros again and is put
+ * back. A plain read gives block 0, and fetch block 1. Disk 0 is overwritten again. */
+static int first_returned(struct shelf_record shelf)
+{
+    uint8_t one[5] = {9, 9, 9, 9, 9};
+    struct shelf_answer answer;
+
+    memset(array, 0, 10);
+    answer = member_of(shelf_put_back, shelf, 0);
+    if (answer.code != SHELF_OK || !is(answer.shelf, SHELF_ACCELERATING, 2, 1, 1u << 1) || !all(array, 10, 0))
+        return 141;
+    if (read_blocks(shelf_read, answer.shelf, 0, 1, one, sizeof one).code != SHELF_OK || !all(one, sizeof one, 0))
+        return 142;
+    if (read_blocks(shelf_read, answer.shelf, 1, 1, one, sizeof one).code != SHELF_BLOCK_FAILED ||
+        read_blocks(shelf_fetch, answer.shelf, 1, 1, one, sizeof one).code != SHELF_OK || !all(one, sizeof one, 7))
+        return 143;
+    memset(array, 55, 10);
+    return 0;
+}
+
+/* On that shelf with nothing failed: each member of the array fails and is put back by the next call, which leaves the
+ * record as it was; before and after that it gets 12, and a sound one beside it too. No byte is stored. */
+static int each_returned(struct shelf_record shelf)
+{
+    const size_t log = shelf_log_member(shelf.geometry);
+    struct shelf_answer failed, answer;
+    uint8_t kept[sizeof array];
+    size_t member;
+
+    memcpy(kept, array, sizeof array);
+    for (member = 0; member < log; member++) {
+        answer = member_of(shelf_put_back, shelf, member);
+        if (answer.code != SHELF_NOT_FAILED || !same(answer.shelf, shelf))
+            return 144;
+        failed = member_of(shelf_fail, shelf, member);
+        answer = member_of(shelf_put_back, failed.shelf, (member + 1) % log);
+        if (failed.code != SHELF_OK || answer.code != SHELF_NOT_FAILED || !same(answer.shelf, failed.shelf))
+            return 145;
+        answer = member_of(shelf_put_back, failed.shelf, member);
+        if (answer.code != SHELF_OK || !same(answer.shelf, shelf))
+            return 146;
+    }
+    return memcmp(array, kept, sizeof array) == 0 ? 0 : 147;
+}
+
+/* On that shelf with nothing failed: the log and what is above it are not put back, be the log sound or failed; and a
+ * list of another length is refused before that. Goes on with the members of the array. */
+static int log_not_returned(struct shelf_record shelf)
+{
+    const size_t log = shelf_log_member(shelf.geometry);
+    const struct shelf_answer failed = member_of(shelf_fail, shelf, log);
+    struct shelf_answer answer = member_of(shelf_put_back, shelf, log);
+
+    if (answer.code != SHELF_BAD_MEMBER || !same(answer.shelf, shelf))
+        return 148;
+    answer = member_of(shelf_put_back, failed.shelf, log);
+    if (failed.code != SHELF_OK || answer.code != SHELF_BAD_MEMBER || !same(answer.shelf, failed.shelf))
+        return 149;
+    if (member_of(shelf_put_back, shelf, log + 1).code != SHELF_BAD_MEMBER ||
+        member_of(shelf_put_back, shelf, SIZE_MAX).code != SHELF_BAD_MEMBER ||
+        shelf_put_back(shelf, log, array, array_len, log_bytes, sizeof log_bytes, list, 71).code != SHELF_BAD_LENGTH)
+        return 150;
+    return each_returned(shelf);
+}
+
 /* On a started shelf: block 1 is logged as 7, disks 0 and 1 fail and are overwritten, read and rebuilt; then the log
  * and disk 0 fail, and block 0 is withheld. */
 static int blocks_logged(struct shelf_record shelf)
@@ -349,6 +415,8 @@ static int blocks_logged(struct shelf_record shelf)
     answer = member_of(shelf_fail, member_of(shelf_fail, shelf, 0).shelf, 1);
     memset(array, 55, 20);
     fault = both_reads(answer.shelf, SHELF_OK);
+    if (fault == 0)
+        fault = first_returned(answer.shelf);
     if (fault != 0)
         return fault;
     if (write_blocks(answer.shelf, 1, 1, sevens, sizeof sevens).code != SHELF_ARRAY_FAILED)
@@ -418,7 +486,8 @@ static int shelf_blocks(void)
         return fault;
     logged.next = 2;
     logged.listed = 1;
-    return blocks_resynced(logged);
+    fault = log_not_returned(logged);
+    return fault != 0 ? fault : blocks_resynced(logged);
 }
 
 /* On that shelf where parity rotates, with block 1 logged as 7 and block 4 as 6: member 2, which has blocks 1 and 5,
@@ -471,6 +540,8 @@ static int shelf_rotates(void)
         !block_is(1, 1, 6))
         return 64;
     fault = rotating_reads(answer.shelf);
+    if (fault == 0)
+        fault = log_not_returned(answer.shelf);
     if (fault != 0)
         return fault;
     answer = member_of(shelf_fail, answer.shelf, 4);
@@ -577,7 +648,9 @@ static int shelf_single(size_t layout)
     answer = write_blocks(on(shelf_start, answer.shelf).shelf, 1, 1, sevens, sizeof sevens);
     if (answer.code != SHELF_OK || !is_of(layout, answer.shelf, SHELF_ACCELERATING, 2, 1, 0) || !block_is(3, 0, 0))
         return 104;
-    fault = single_mended(layout, answer.shelf);
+    fault = log_not_returned(answer.shelf);
+    if (fault == 0)
+        fault = single_mended(layout, answer.shelf);
     if (fault == 0 && !all(array + 40, 10, 66))
         fault = 105;
     array_len = sizeof array;

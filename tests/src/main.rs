@@ -29,7 +29,7 @@ pub type Outcome = Result<String, String>;
 type Group = fn(u64) -> Outcome;
 
 /// The groups in the order in which they run.
-const GROUPS: [(&str, Group); 25] = [
+const GROUPS: [(&str, Group); 26] = [
     ("field", field::group),
     ("products", products::group),
     ("examples", examples::group),
@@ -44,6 +44,7 @@ const GROUPS: [(&str, Group); 25] = [
     ("rotating rebuilds", shelf::cases::rotation::group),
     ("rebuilds in turn", shelf::cases::rebuilds::group),
     ("one parity", shelf::cases::single::group),
+    ("put back", shelf::cases::returned::group),
     ("sessions", shelf::cases::sessions::group),
     ("tiny shelves", shelf::cases::tiny::group),
     ("random shelves", shelf::cases::random::group),

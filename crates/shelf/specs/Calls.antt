@@ -11,7 +11,7 @@ use Rattle.stripe.specs.Blocks.{block}
 use Rattle.shelf.specs.Counting.{choose, count, any, setAt}
 use Rattle.shelf.specs.Members.{arrayMembers, logMember, parityRole, memberAt, addressOf, blockParity, workedBack}
 use Rattle.shelf.specs.State.{Log, State, isSome, listed, marksIn, lowestStale}
-use Rattle.shelf.specs.Status.{Call, start, fail, write, read, fetch, resync, rebuild, newLog, fullResync, codeOf}
+use Rattle.shelf.specs.Status.{Call, start, fail, putBack, write, read, fetch, resync, rebuild, newLog, fullResync, codeOf}
 use Rattle.shelf.specs.declared.record.Geometry.{Geometry}
 
 -- ---- parts that several calls share
@@ -232,6 +232,7 @@ modeWithout g j marks mode = choose (eqb j (logMember g) && eqb mode 1) (choose 
 unfoldable pub work : Geometry → Call → State → State
 work g start s = inMode s 1
 work g (fail j) s = inMode (withFlags s (setAt j true (s .failed))) (modeWithout g j (marksIn g (listed (s .log))) (s .mode))
+work g (putBack j) s = withFlags s (setAt j false (s .failed))
 work g (write a n v) s = writeTo g (g .s) a n v s
 work g (read a n len) s = s
 work g (fetch a n len) s = s

@@ -1,13 +1,15 @@
 -- A clean shelf beside its book: in mode 0, its list filled with none, its sound members with the blocks that the book holds and their parity. A
 -- sequence of calls may begin there as at a fresh shelf, which is one of them; request P8 says of the others that they carry over.
 -- Assumes nothing.
-use mathlib.Core.Bool.{false}
+use mathlib.Core.Bool.{Bool, true, false}
+use mathlib.Core.List.{List}
 use mathlib.Core.Path.{_≡_}
 use Prim.Native.Nat.{ℕ, _<_}
 use lib.ListN.{length}
 use Rattle.shelf.specs.Members.{parityRole, memberAt, IsBlock, blockParity}
 use Rattle.shelf.specs.Book.{Book, noMarks}
 use Rattle.shelf.specs.Lent.{Lent, flagAt, arrayBlock, badMeasures, badRecord, badLengths, noneList}
+use Rattle.shelf.specs.Sequence.{Reported}
 use Rattle.shelf.specs.declared.record.Geometry.{Geometry}
 
 -- each parity that stripe x has in the array, where its member is sound, is that of the blocks that the book holds
@@ -34,3 +36,10 @@ pub record Clean (g : Geometry) (h : Lent) (b : Book) : Type 0 where
   pub blocks : (x i : ℕ) → x < g .s → i < g .d → IsBlock g (b .held x i)
   pub sound : (x i : ℕ) → x < g .s → i < g .d → flagAt (h .shelf) (memberAt g x i) ≡ false → arrayBlock g (h .array) x i ≡ b .held x i
   pub parity : (x : ℕ) → x < g .s → Parity g h b x
+
+-- What was reported of the members that have failed, by f, is what sound ones would hold: the blocks held, and the parity of the originals, the blocks
+-- that parity was made of. On a clean shelf these are the blocks held.
+pub record Recalled (g : Geometry) (f : ℕ → Bool) (held orig : ℕ → ℕ → List ℕ) (k : Reported) : Type 0 where
+  pub blocks : (x i : ℕ) → x < g .s → i < g .d → f (memberAt g x i) ≡ true → k (memberAt g x i) x ≡ held x i
+  pub parity : (x p : ℕ) → x < g .s → p < g .parities → f (memberAt g x (parityRole g p)) ≡ true
+      → k (memberAt g x (parityRole g p)) x ≡ blockParity g p (orig x)

@@ -1,4 +1,4 @@
--- The nine calls after format, and the numbers 4 to 14 and 16 that refuse them. Each row of the customer's tables is one definition, or one for each
+-- The ten calls after format, and the numbers 4 to 14 and 16 that refuse them. Each row of the customer's tables is one definition, or one for each
 -- condition that it names, in the order of the table; `codeOf` says which rows a call tries. Of the shelf the rows look at the failed members, the
 -- mode and the marked blocks only, so shelf and book are refused by the same definitions: marked are the shelf's listed blocks, or the book's marked
 -- ones. Rows 1 to 3 and format stand in `Lent.antt`, the rows of the two stripe calls in the stripe crate.
@@ -13,11 +13,12 @@ use Rattle.shelf.specs.Members.{arrayMembers, logMember, allMembers, mem
 use Rattle.shelf.specs.State.{stale, marksIn}
 use Rattle.shelf.specs.declared.record.Geometry.{Geometry}
 
--- A call with what its caller gives it: fail a member; write an address, a count and the data; read (the plain read) and fetch (the
+-- A call with what its caller gives it: fail and put back a member; write an address, a count and the data; read (the plain read) and fetch (the
 -- recovering one) an address, a count and the length of the caller's buffer. It is all that the book is fed.
 pub data Call : Type 0 where
   start : Call
   fail : ℕ → Call
+  putBack : ℕ → Call
   write : ℕ → ℕ → List ℕ → Call
   read : ℕ → ℕ → ℕ → Call
   fetch : ℕ → ℕ → ℕ → Call
@@ -36,9 +37,12 @@ badAddress g a n = eqb n 0 || ltb (addresses g) (a + n)
 abbrev pub badData : Geometry → ℕ → ℕ → Bool
 badData g n len = not (eqb len (n * g .b))
 
--- 6: the member's number is above the log's
+-- 6: the member's number is above the log's (fail), or the member is not one of the array (put back)
 abbrev pub badMember : Geometry → ℕ → Bool
 badMember g j = ltb (logMember g) j
+
+abbrev pub notOfArray : Geometry → ℕ → Bool
+notOfArray g j = leb (arrayMembers g) j
 
 -- 7: the mode is not 0 (start), or is 0 (resync)
 abbrev pub notNormal : ℕ → Bool
@@ -63,12 +67,15 @@ alreadyFailed f j = f j
 abbrev pub limitReached : Geometry → (ℕ → Bool) → Bool
 limitReached g f = leb (g .parities) (count (allMembers g) f)
 
--- 12: no array member failed (rebuild), or the log is sound (new log)
+-- 12: no array member failed (rebuild), the log is sound (new log), or the member is sound (put back)
 abbrev pub arraySound : Geometry → (ℕ → Bool) → Bool
 arraySound g f = not (arrayFailed g f)
 
 abbrev pub logSound : Geometry → (ℕ → Bool) → Bool
 logSound g f = not (logFailed g f)
+
+abbrev pub memberSound : (ℕ → Bool) → ℕ → Bool
+memberSound f j = not (f j)
 
 -- 13: blocks are listed
 abbrev pub someListed : Geometry → (ℕ → ℕ → Bool) → Bool
@@ -102,6 +109,7 @@ blockRows g a n len rest = row 4 (badAddress g a n) (row 5 (badData g n len) res
 unfoldable pub codeOf : Geometry → (ℕ → Bool) → ℕ → (ℕ → ℕ → Bool) → Call → ℕ
 codeOf g f mode m start = row 7 (notNormal mode) (row 8 (arrayFailed g f) (row 9 (logFailed g f) 0))
 codeOf g f mode m (fail j) = row 6 (badMember g j) (row 10 (alreadyFailed f j) (row 11 (limitReached g f) 0))
+codeOf g f mode m (putBack j) = row 6 (notOfArray g j) (row 12 (memberSound f j) 0)
 codeOf g f mode m (write a n v) = blockRows g a n (length v) (row 8 (arrayFailed g f) 0)
 codeOf g f mode m (read a n len) = blockRows g a n len (row 16 (readFailed g f a n) 0)
 codeOf g f mode m (fetch a n len) = blockRows g a n len (row 14 (fetchWithheld g f m a n) 0)

@@ -34,7 +34,7 @@ use status::Request;
 ghost use mathlib.Core.Logic.{_≢_};
 ghost use mathlib.Core.Path.{_≡_};
 ghost use lib.ListN.{length, replicate};
-ghost use Rattle.shelf.specs.Status.{start, fail, write, read, fetch, resync, rebuild, newLog, fullResync};
+ghost use Rattle.shelf.specs.Status.{start, fail, putBack, write, read, fetch, resync, rebuild, newLog, fullResync};
 ghost use Rattle.shelf.specs.Lent.{lent, formatCode, formatLeaves, freshRecord, stateOf, readBuffer, fetchBuffer, toldStripe, Answered};
 
 // What a call hands back: its number, 0 where it was accepted, and the record after it.
@@ -114,6 +114,36 @@ pub extern "C" fn shelf_fail(
     Answer {
         code: 0,
         shelf: shelf.fail(member),
+    }
+}
+
+// Takes back the report that a member of the array has failed: clears its flag. What is proved of a shelf reached from a fresh one holds
+// where the member's bytes are those that it had when it was reported. Answers 0; or the first of 1, 2, 3, 6, 12 that applies. Stores no
+// byte.
+#[no_mangle]
+pub extern "C" fn shelf_put_back(
+    shelf: record::Shelf,
+    member: usize,
+    array: &[u8],
+    log: &[u8],
+    list: &[u8],
+) -> Answer
+    ensures { λ a. ⌜ Answered (lent shelf (now (array .entry)) (now (log .entry)) (now (list .entry))) (putBack member) (a .code)
+        (lent (a .shelf) (now (array .entry)) (now (log .entry)) (now (list .entry))) ⌝ }
+{
+    let code = status::number_of(
+        shelf,
+        Request::PutBack(member),
+        array.len(),
+        log.len(),
+        list,
+    );
+    if code != 0 {
+        return Answer { code, shelf };
+    }
+    Answer {
+        code: 0,
+        shelf: shelf.renew(member),
     }
 }
 

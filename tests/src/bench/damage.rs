@@ -202,13 +202,16 @@ fn misspelt(line: &mut Line, random: &mut Random) {
 
 /// Another name: of the output, of the library, of the columns, of other programs, or nothing.
 fn unknown(line: &mut Line, random: &mut Random) {
-    const NAMES: [&str; 16] = [
+    const NAMES: [&str; 19] = [
         "format",
         "bad",
         "call",
         "new_log",
         "new-log",
         "newLog",
+        "putback",
+        "put_back",
+        "put-back",
         "full_resync",
         "resynced",
         "recover",

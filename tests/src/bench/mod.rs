@@ -119,7 +119,7 @@ pub fn group(seed: u64) -> Outcome {
         kinds.push(format!("{count} {kind}"));
         total += count;
     }
-    let (answers, ways) = (reached.complete(AT_LEAST)?, seen.fixed(AT_LEAST)?);
+    let (answers, ways) = (reached.complete(AT_LEAST)?, seen.of_bench(AT_LEAST)?);
     let damages = maker.damages.into_iter().min().filter(|&least| least >= AT_LEAST).ok_or("a damage is too rare")?;
     Ok(format!(
         "{total} random inputs, {}; {} lines as the model has them, each number of each call {answers} times at least, \

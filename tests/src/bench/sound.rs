@@ -4,7 +4,7 @@ use super::lines::call_line;
 use super::model::Bench;
 use crate::random::Random;
 use crate::shelf::cases::sequences;
-use crate::shelf::harness::calls::{fetch, read, write, Call, Measures};
+use crate::shelf::harness::calls::{fetch, read, write, Call, Measures, Shelf};
 use crate::shelf::harness::lists::pick;
 use crate::shelf::harness::requests;
 use crate::shelf::model::events::Seen;
@@ -38,12 +38,13 @@ pub fn measures(random: &mut Random) -> Measures {
     }
 }
 
-/// The name of a call and the values that it uses.
+/// The name of a call and the values that it uses; put back has a name that the program does not know.
 fn words(call: Call) -> (&'static str, Vec<usize>) {
     match call {
         Call::Format => ("format", vec![]),
         Call::Start => ("start", vec![]),
         Call::Fail(member) => ("fail", vec![member]),
+        Call::PutBack(member) => ("putback", vec![member]),
         Call::NewLog => ("newlog", vec![]),
         Call::Write { address, count } => ("write", vec![address, count]),
         Call::Read { address, count } => ("read", vec![address, count]),
@@ -83,13 +84,22 @@ fn of_call(call: Call, random: &mut Random) -> Fields {
     [name.into()].into_iter().chain(given).collect()
 }
 
+/// A random call that the program has.
+fn next_call(shelf: &Shelf, is_busy: bool, random: &mut Random) -> Call {
+    loop {
+        let (call, _) = sequences::next_call(shelf, is_busy, random);
+        if !matches!(call, Call::PutBack(_)) {
+            return call;
+        }
+    }
+}
+
 /// The call lines of a session over these measures, which the program accepts. Fails if one of them can't be read.
 pub fn calls(m: Measures, most: usize, random: &mut Random) -> Result<Vec<Fields>, String> {
     let mut bench = Bench::fresh(m).ok_or_else(|| format!("{m:?} is no shelf of the program"))?;
     let (is_busy, mut calls) = (random.below(2) == 0, Vec::new());
     for _ in 0..pick(most + 1, random) {
-        let (call, _) = sequences::next_call(&bench.shelf, is_busy, random);
-        let fields = of_call(call, random);
+        let fields = of_call(next_call(&bench.shelf, is_busy, random), random);
         let line = joined(&fields);
         if call_line(&line).is_none() {
             return Err(format!("a sound line can't be read: {}", line.escape_ascii()));

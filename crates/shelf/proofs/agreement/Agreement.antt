@@ -14,8 +14,11 @@ use Rattle.shelf.specs.Members.{InRange, arrayMembers, logMember, allMem
 use Rattle.shelf.specs.State.{Log, State, isSome, listed, marksIn}
 use Rattle.shelf.specs.Status.{arrayFailed, logFailed}
 use Rattle.shelf.specs.Book.{Book}
+use Rattle.shelf.specs.Sequence.{Reported}
+use Rattle.shelf.specs.Clean.{Recalled}
 use Rattle.shelf.specs.declared.record.Geometry.{Geometry}
 use Rattle.shelf.proofs.general.CountLaws.{any-none}
+use Rattle.shelf.proofs.general.TestLaws.{clash}
 use Rattle.shelf.proofs.agreement.ListedLaws.{marksIn-ext}
 
 -- a block in each place of a table
@@ -68,6 +71,16 @@ pub record Agrees (g : Geometry) (s : State) (b : Book) : Type 0 where
   -- where nothing is listed, every log record is free and the mode is not 2
   pub idle : marksIn g (listed (s .log)) ≡ 0 → (s .log .next ≡ 0) × (s .mode ≡ 2 → ⊥)
 
+-- The invariant, whole: what was reported of a failed member is what a sound one would hold, the block held or the parity of the originals.
+pub record Invariant (g : Geometry) (s : State) (b : Book) (k : Reported) : Type 0 where
+  pub agrees : Agrees g s b
+  pub recalled : Recalled g (s .failed) (b .held) (agrees .near .orig) k
+
+-- a member's blocks are those that were reported of it
+pub record AsReported (g : Geometry) (s : State) (j : ℕ) (k : Reported) : Type 0 where
+  pub blocks : (x i : ℕ) → x < g .s → i < g .d → memberAt g x i ≡ j → s .disk x i ≡ k (memberAt g x i) x
+  pub parity : (x p : ℕ) → x < g .s → p < g .parities → memberAt g x (parityRole g p) ≡ j → s .parity x p ≡ k (memberAt g x (parityRole g p)) x
+
 -- there is a data disk
 pub positive : {g : Geometry} → InRange g → 0 < g .d
 positive Y = omega (arith, Y .d-least)
@@ -77,6 +90,23 @@ pub all-sound : {g : Geometry} {s : State} {b : Book} → Nearly g s b → array
     → (x i : ℕ) → x < g .s → i < g .d → s .disk x i ≡ b .held x i
 all-sound {g} {s} {b} A ok x i hx hi =
     A .sound x i hx hi (any-none (arrayMembers g) (s .failed) ok (memberAt g x i) (one-to-one (g .layout) (g .d) (g .parities) x .within i (omega arith)))
+
+-- and of no member a report is recalled
+pub none-recalled : (g : Geometry) (f : ℕ → Bool) (held orig : ℕ → ℕ → List ℕ) (k : Reported) → arrayFailed g f ≡ false → Recalled g f held orig k
+none-recalled g f held orig k ok =
+    record { blocks = λ x i _ hi e. clash e (sound x i (omega arith)); parity = λ x p _ hp e. clash e (sound x (parityRole g p) (omega arith)) }
+  where
+    sound : (x i : ℕ) → i < arrayMembers g → f (memberAt g x i) ≡ false
+    sound x i h = any-none (arrayMembers g) f ok (memberAt g x i) (one-to-one (g .layout) (g .d) (g .parities) x .within i h)
+
+-- where fewer have failed, less is recalled
+pub fewer-recalled : (g : Geometry) {f f' : ℕ → Bool} {held orig : ℕ → ℕ → List ℕ} {k : Reported} → ((i : ℕ) → f' i ≡ true → f i ≡ true)
+    → Recalled g f held orig k → Recalled g f' held orig k
+fewer-recalled g fewer R =
+    record {
+      blocks = λ x i hx hi e. R .blocks x i hx hi (fewer (memberAt g x i) e);
+      parity = λ x p hx hp e. R .parity x p hx hp (fewer (memberAt g x (parityRole g p)) e);
+    }
 
 -- of the blocks held, only those within the geometry matter
 pub held-ext : (g : Geometry) (s : State) (b : Book) (h : ℕ → ℕ → List ℕ) → ((x i : ℕ) → x < g .s → i < g .d → h x i ≡ b .held x i)
@@ -122,9 +152,12 @@ pub record Alike (g : Geometry) (s t : State) : Type 0 where
   pub mode : t .mode ≡ s .mode
   pub failed : t .failed ≡ s .failed
 
-module _ {g : Geometry} {s t : State} {b : Book} (L : Alike g s t) (A : Agrees g s b) where
+module _ {g : Geometry} {s t : State} {b : Book} {k : Reported} (L : Alike g s t) (I : Invariant g s b k) where
+  abbrev A : Agrees g s b
+  A = I .agrees
+
   abbrev N : Nearly g s b
-  N = A .near
+  N = I .agrees .near
 
   seen : (x i : ℕ) → x < g .s → i < g .d → listed (t .log) x i ≡ listed (s .log) x i
   seen x i hx hi = ap₂ (λ (o c : Option ℕ). isSome o || isSome c) (L .ori x i hx hi) (L .cur x i hx hi)
@@ -135,40 +168,44 @@ module _ {g : Geometry} {s t : State} {b : Book} (L : Alike g s t) (A : Agrees g
   member : (i : ℕ) → s .failed i ≡ t .failed i
   member i = ap (λ (f : ℕ → Bool). f i) (sym (L .failed))
 
-  pub alike-agrees : Agrees g t b
-  alike-agrees =
+  pub alike-keeps : Invariant g t b k
+  alike-keeps =
       record {
-        near =
+        agrees =
             record {
-              mode = L .mode ∙ N .mode;
-              next = L .next ∙ N .next;
-              failed = L .failed ∙ N .failed;
-              marks = λ x i hx hi. seen x i hx hi ∙ N .marks x i hx hi;
-              sound = λ x i hx hi e. L .disk x i hx hi (member (memberAt g x i) ∙ e) ∙ N .sound x i hx hi (member (memberAt g x i) ∙ e);
-              helds = N .helds;
-              orig = N .orig;
-              origs = N .origs;
-              noted =
+              near =
                   record {
-                    plain = λ x i hx hi e. N .noted .plain x i hx hi (sym (L .cur x i hx hi) ∙ e);
-                    oris = λ x i hx hi r e. kept r (N .orig x i) (N .origs x i hx hi .0) (N .noted .oris x i hx hi r (sym (L .ori x i hx hi) ∙ e));
-                    curs = λ x i hx hi r e. kept r (b .held x i) (N .helds x i hx hi .0) (N .noted .curs x i hx hi r (sym (L .cur x i hx hi) ∙ e));
+                    mode = L .mode ∙ N .mode;
+                    next = L .next ∙ N .next;
+                    failed = L .failed ∙ N .failed;
+                    marks = λ x i hx hi. seen x i hx hi ∙ N .marks x i hx hi;
+                    sound = λ x i hx hi e. L .disk x i hx hi (member (memberAt g x i) ∙ e) ∙ N .sound x i hx hi (member (memberAt g x i) ∙ e);
+                    helds = N .helds;
+                    orig = N .orig;
+                    origs = N .origs;
+                    noted =
+                        record {
+                          plain = λ x i hx hi e. N .noted .plain x i hx hi (sym (L .cur x i hx hi) ∙ e);
+                          oris = λ x i hx hi r e. kept r (N .orig x i) (N .origs x i hx hi .0) (N .noted .oris x i hx hi r (sym (L .ori x i hx hi) ∙ e));
+                          curs = λ x i hx hi r e. kept r (b .held x i) (N .helds x i hx hi .0) (N .noted .curs x i hx hi r (sym (L .cur x i hx hi) ∙ e));
+                        };
+                    parity = λ x p hx hp e.
+                        L .parity x p hx hp (member (memberAt g x (parityRole g p)) ∙ e) ∙ N .parity x p hx hp (member (memberAt g x (parityRole g p)) ∙ e);
+                    whole = λ x i j hx hi hj e e'. seen x j hx hj ∙ N .whole x i j hx hi hj (sym (L .ori x i hx hi) ∙ e) (sym (seen x i hx hi) ∙ e');
+                    few = rw (L .failed) (N .few);
+                    one = λ e. sym (member (logMember g)) ∙ N .one (sym (L .mode) ∙ e);
                   };
-              parity = λ x p hx hp e.
-                  L .parity x p hx hp (member (memberAt g x (parityRole g p)) ∙ e) ∙ N .parity x p hx hp (member (memberAt g x (parityRole g p)) ∙ e);
-              whole = λ x i j hx hi hj e e'. seen x j hx hj ∙ N .whole x i j hx hi hj (sym (L .ori x i hx hi) ∙ e) (sym (seen x i hx hi) ∙ e');
-              few = rw (L .failed) (N .few);
-              one = λ e. sym (member (logMember g)) ∙ N .one (sym (L .mode) ∙ e);
+              valid =
+                  record {
+                    room = omega (arith, A .valid .room, L .next);
+                    fits = omega (arith, A .valid .fits, count-seen);
+                    modes = omega (arith, A .valid .modes, L .mode);
+                    zero = λ e. count-seen ∙ A .valid .zero (sym (L .mode) ∙ e);
+                    top = λ i h. sym (member i) ∙ A .valid .top i h;
+                  };
+              idle = λ e. let w = A .idle (sym count-seen ∙ e) in (L .next ∙ w .0, λ z. w .1 (sym (L .mode) ∙ z));
             };
-        valid =
-            record {
-              room = omega (arith, A .valid .room, L .next);
-              fits = omega (arith, A .valid .fits, count-seen);
-              modes = omega (arith, A .valid .modes, L .mode);
-              zero = λ e. count-seen ∙ A .valid .zero (sym (L .mode) ∙ e);
-              top = λ i h. sym (member i) ∙ A .valid .top i h;
-            };
-        idle = λ e. let w = A .idle (sym count-seen ∙ e) in (L .next ∙ w .0, λ z. w .1 (sym (L .mode) ∙ z));
+        recalled = subst (λ (f : ℕ → Bool). Recalled g f (b .held) (N .orig) k) (sym (L .failed)) (I .recalled);
       }
     where
       -- a record in use

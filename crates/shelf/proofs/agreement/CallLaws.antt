@@ -1,4 +1,4 @@
--- Start, fail, new log, full resync, resync and rebuild keep the agreement.
+-- Start, fail, put back, new log, full resync, resync and rebuild keep the agreement; fail, put back and new log keep what is recalled besides.
 -- Assumes nothing.
 use mathlib.Core.Bool.{Bool, true, false, _&&_}
 use mathlib.Core.List.{List}
@@ -9,18 +9,20 @@ use native.Mathlib.Omega.{arith}
 use lib.Dec.{eqb, ltb}
 use borrow.Author.Tests.{eq-eqb, lt-ltb, le-ltb, eqb-true, eqb-false}
 use Rattle.stripe.proofs.Laws.{one-to-one}
-use Rattle.shelf.specs.Counting.{choose, bit, count, any, setAt}
+use Rattle.shelf.specs.Counting.{choose, count, any, setAt}
 use Rattle.shelf.specs.Members.{InRange, arrayMembers, logMember, allMembers, parityRole, memberAt, IsBlock}
 use Rattle.shelf.specs.State.{State, isSome, listed, stale, marksIn, lowestStale}
-use Rattle.shelf.specs.Status.{start, fail, resync, rebuild, newLog, fullResync}
+use Rattle.shelf.specs.Status.{start, fail, putBack, resync, rebuild, newLog, fullResync}
 use Rattle.shelf.specs.Calls.{inMode, nextLeft, modeLeft, settled, made, remade, resynced, blockAt, parityFailed, arrayCleared, rebuilt, modeWithout, work, code}
 use Rattle.shelf.specs.Book.{Marks, Book, closed, bookWork}
+use Rattle.shelf.specs.Sequence.{Reported}
+use Rattle.shelf.specs.Clean.{Recalled}
 use Rattle.shelf.specs.declared.record.Geometry.{Geometry}
-use Rattle.shelf.proofs.general.CountLaws.{setAt-here, setAt-same, setAt-other, setRow-other, first-ext, any-none, count-mono, count-at, first-found, first-none}
-use Rattle.shelf.proofs.general.TestLaws.{cases, clash, and-false, choose-true, choose-false}
+use Rattle.shelf.proofs.general.CountLaws.{bit-most, setAt-here, setAt-same, setAt-other, setRow-other, first-ext, any-none, count-mono, count-at, first-found, first-none}
+use Rattle.shelf.proofs.general.TestLaws.{cases, clash, false-is, and-false, choose-true, choose-false}
 use Rattle.shelf.proofs.agreement.ListedLaws.{never-some, unlisted, dropped-listed, marksIn-ext, stale-ext, marks-none, none-marks, no-marks}
-use Rattle.shelf.proofs.agreement.Agreement.{Nearly, Valid, Agrees, all-sound}
-use Rattle.shelf.proofs.agreement.StatusLaws.{start-passed, fail-passed, resync-passed, rebuild-passed, newLog-passed, fullResync-passed}
+use Rattle.shelf.proofs.agreement.Agreement.{Nearly, Valid, Agrees, Invariant, AsReported, all-sound, fewer-recalled}
+use Rattle.shelf.proofs.agreement.StatusLaws.{start-passed, fail-passed, put-back-passed, resync-passed, rebuild-passed, newLog-passed, fullResync-passed}
 use Rattle.shelf.proofs.agreement.ReadLaws.{block-exact}
 use Rattle.shelf.proofs.agreement.SettleLaws.{settled-agrees, closed-already, afresh-agrees, made-agrees}
 
@@ -73,10 +75,13 @@ failed-zero true n m h e =
     cases (eqb n 0) (eqb-true n 0) (λ z. let q : _≡_ {A = ℕ} 2 0 = sym (choose-false (eqb n 0) 0 2 z) ∙ e in absurd (omega arith))
 failed-zero false n m h e = h e
 
-bit-most : (u : Bool) → bit u ≤ 1
-unfolding bit
-bit-most true = omega arith
-bit-most false = omega arith
+-- ---- a flag that is cleared
+
+pub cleared : (j : ℕ) (f : ℕ → Bool) (i : ℕ) → setAt j false f i ≡ true → f i ≡ true
+cleared j f i e = elim (ℕ-discrete i j) [ yes h ↦ clash e (setAt-here j false f i h) | no h ↦ sym (setAt-other j false f i h) ∙ e ]
+
+stays-clear : (j : ℕ) (f : ℕ → Bool) (i : ℕ) → f i ≡ false → setAt j false f i ≡ false
+stays-clear j f i e = false-is (setAt j false f i) (λ t. clash (cleared j f i t) e)
 
 -- ---- the calls
 
@@ -135,40 +140,58 @@ module _ (g : Geometry) (s : State) (b : Book) (A : Agrees g s b) where
 
   -- ---- fail
 
-  pub fail-keeps : (j : ℕ) → code g (fail j) s ≡ 0 → Agrees g (work g (fail j) s) (bookWork g (fail j) b)
+  pub fail-keeps : (j : ℕ) (k k' : Reported) → Recalled g (s .failed) (b .held) (N .orig) k → ((m : ℕ) → (m ≡ j → ⊥) → (x : ℕ) → k' m x ≡ k m x)
+      → AsReported g s j k' → code g (fail j) s ≡ 0
+      → Invariant g (work g (fail j) s) (bookWork g (fail j) b) k'
   unfolding work bookWork closed
-  fail-keeps j z =
+  fail-keeps j k k' R others now-has z =
       record {
-        near =
+        agrees =
             record {
-              mode = mode;
-              next = N .next ∙ ap (λ (m : Marks). m .used) (sym (closed-already g s b A));
-              failed = ap (setAt j true) (N .failed);
-              marks = N .marks;
-              sound = λ x i hx hi f. N .sound x i hx hi (before (memberAt g x i) f);
-              helds = N .helds;
-              orig = N .orig;
-              origs = N .origs;
-              noted =
+              near =
                   record {
-                    plain = N .noted .plain;
-                    oris = λ x i hx hi r e. let w = N .noted .oris x i hx hi r e in (w .0, λ f. w .1 (before (logMember g) f));
-                    curs = λ x i hx hi r e. let w = N .noted .curs x i hx hi r e in (w .0, λ f. w .1 (before (logMember g) f));
+                    mode = mode;
+                    next = N .next ∙ ap (λ (m : Marks). m .used) (sym (closed-already g s b A));
+                    failed = ap (setAt j true) (N .failed);
+                    marks = N .marks;
+                    sound = λ x i hx hi f. N .sound x i hx hi (before (memberAt g x i) f);
+                    helds = N .helds;
+                    orig = N .orig;
+                    origs = N .origs;
+                    noted =
+                        record {
+                          plain = N .noted .plain;
+                          oris = λ x i hx hi r e. let w = N .noted .oris x i hx hi r e in (w .0, λ f. w .1 (before (logMember g) f));
+                          curs = λ x i hx hi r e. let w = N .noted .curs x i hx hi r e in (w .0, λ f. w .1 (before (logMember g) f));
+                        };
+                    parity = λ x p hx hp f. N .parity x p hx hp (before (memberAt g x (parityRole g p)) f);
+                    whole = N .whole;
+                    few = most;
+                    one = failed-one j (logMember g) (s .mode) marks (s .failed) (N .one);
                   };
-              parity = λ x p hx hp f. N .parity x p hx hp (before (memberAt g x (parityRole g p)) f);
-              whole = N .whole;
-              few = most;
-              one = failed-one j (logMember g) (s .mode) marks (s .failed) (N .one);
+              valid =
+                  record {
+                    room = A .valid .room;
+                    fits = A .valid .fits;
+                    modes = failed-most now marks (s .mode) (A .valid .modes);
+                    zero = failed-zero now marks (s .mode) (A .valid .zero);
+                    top = λ i h. setAt-other j true (s .failed) i (λ e. omega (arith, passed .0)) ∙ A .valid .top i h;
+                  };
+              idle = λ e. (A .idle e .0, failed-idle now marks (s .mode) (A .idle e .1) e);
             };
-        valid =
+        recalled =
             record {
-              room = A .valid .room;
-              fits = A .valid .fits;
-              modes = failed-most now marks (s .mode) (A .valid .modes);
-              zero = failed-zero now marks (s .mode) (A .valid .zero);
-              top = λ i h. setAt-other j true (s .failed) i (λ e. omega (arith, passed .0)) ∙ A .valid .top i h;
+              blocks = λ x i hx hi f.
+                  elim (ℕ-discrete (memberAt g x i) j) [
+                    | yes e ↦ sym (now-has .blocks x i hx hi e) ∙ N .sound x i hx hi (ap (s .failed) e ∙ passed .1 .0)
+                    | no e ↦ others (memberAt g x i) e x ∙ R .blocks x i hx hi (sym (setAt-other j true (s .failed) (memberAt g x i) e) ∙ f)
+                  ];
+              parity = λ x p hx hp f.
+                  elim (ℕ-discrete (memberAt g x (parityRole g p)) j) [
+                    | yes e ↦ sym (now-has .parity x p hx hp e) ∙ N .parity x p hx hp (ap (s .failed) e ∙ passed .1 .0)
+                    | no e ↦ others (memberAt g x (parityRole g p)) e x ∙ R .parity x p hx hp (sym (setAt-other j true (s .failed) (memberAt g x (parityRole g p)) e) ∙ f)
+                  ];
             };
-        idle = λ e. (A .idle e .0, failed-idle now marks (s .mode) (A .idle e .1) e);
       }
     where
       passed : (j ≤ logMember g) × ((s .failed j ≡ false) × (count (allMembers g) (s .failed) < g .parities))
@@ -194,51 +217,113 @@ module _ (g : Geometry) (s : State) (b : Book) (A : Agrees g s b) where
           failed-mode now marks (s .mode) (ap₂ modeLeft same-marks (N .mode) ∙ ap (λ (m : Marks). m .mode) (closed-already g s b A) ∙ sym (N .mode))
           ∙ ap₂ (λ (n m : ℕ). modeLeft n (choose (eqb j (logMember g) && eqb m 1) 2 m)) same-marks (N .mode)
 
+  -- ---- put back
+
+  pub put-back-keeps : (j : ℕ) (k : Reported) → Recalled g (s .failed) (b .held) (N .orig) k → AsReported g s j k → code g (putBack j) s ≡ 0
+      → Invariant g (work g (putBack j) s) (bookWork g (putBack j) b) k
+  unfolding work bookWork
+  put-back-keeps j k R has z =
+      record {
+        agrees =
+            record {
+              near =
+                  record {
+                    mode = N .mode;
+                    next = N .next;
+                    failed = ap (setAt j false) (N .failed);
+                    marks = N .marks;
+                    sound = λ x i hx hi f.
+                        elim (ℕ-discrete (memberAt g x i) j) [
+                          | yes e ↦ has .blocks x i hx hi e ∙ R .blocks x i hx hi (ap (s .failed) e ∙ passed .1)
+                          | no e ↦ N .sound x i hx hi (before (memberAt g x i) e f)
+                        ];
+                    helds = N .helds;
+                    orig = N .orig;
+                    origs = N .origs;
+                    noted =
+                        record {
+                          plain = N .noted .plain;
+                          oris = λ x i hx hi r e. let w = N .noted .oris x i hx hi r e in (w .0, λ f. w .1 (before (logMember g) not-log f));
+                          curs = λ x i hx hi r e. let w = N .noted .curs x i hx hi r e in (w .0, λ f. w .1 (before (logMember g) not-log f));
+                        };
+                    parity = λ x p hx hp f.
+                        elim (ℕ-discrete (memberAt g x (parityRole g p)) j) [
+                          | yes e ↦ has .parity x p hx hp e ∙ R .parity x p hx hp (ap (s .failed) e ∙ passed .1)
+                          | no e ↦ N .parity x p hx hp (before (memberAt g x (parityRole g p)) e f)
+                        ];
+                    whole = N .whole;
+                    few = omega (arith, N .few, count-mono (allMembers g) (setAt j false (s .failed)) (s .failed) (λ i _. cleared j (s .failed) i));
+                    one = λ e. stays-clear j (s .failed) (logMember g) (N .one e);
+                  };
+              valid =
+                  record {
+                    room = A .valid .room;
+                    fits = A .valid .fits;
+                    modes = A .valid .modes;
+                    zero = A .valid .zero;
+                    top = λ i h. stays-clear j (s .failed) i (A .valid .top i h);
+                  };
+              idle = A .idle;
+            };
+        recalled = fewer-recalled g (cleared j (s .failed)) R;
+      }
+    where
+      passed : (j < arrayMembers g) × (s .failed j ≡ true)
+      passed = put-back-passed g s j z
+
+      not-log : logMember g ≡ j → ⊥
+      not-log e = omega (arith, e, passed .0)
+
+      -- another member that is sound was so before
+      before : (i : ℕ) → (i ≡ j → ⊥) → setAt j false (s .failed) i ≡ false → s .failed i ≡ false
+      before i n f = sym (setAt-other j false (s .failed) i n) ∙ f
+
   -- ---- new log
 
-  pub newLog-keeps : code g newLog s ≡ 0 → Agrees g (work g newLog s) (bookWork g newLog b)
+  pub newLog-keeps : (k : Reported) → Recalled g (s .failed) (b .held) (N .orig) k → code g newLog s ≡ 0
+      → Invariant g (work g newLog s) (bookWork g newLog b) k
   unfolding work bookWork
-  newLog-keeps z =
+  newLog-keeps k R z =
       record {
-        near =
+        agrees =
             record {
-              mode = N .mode;
-              next = N .next;
-              failed = ap (setAt (logMember g) false) (N .failed);
-              marks = N .marks;
-              sound = λ x i hx hi f. N .sound x i hx hi (before x i (omega arith) f);
-              helds = N .helds;
-              orig = N .orig;
-              origs = N .origs;
-              noted =
+              near =
                   record {
-                    plain = N .noted .plain;
-                    oris = λ x i hx hi r e. absurd (never-some (sym (unlisted (s .log) x i (bare x i hx hi) .0) ∙ e));
-                    curs = λ x i hx hi r e. absurd (never-some (sym (unlisted (s .log) x i (bare x i hx hi) .1) ∙ e));
+                    mode = N .mode;
+                    next = N .next;
+                    failed = ap (setAt (logMember g) false) (N .failed);
+                    marks = N .marks;
+                    sound = λ x i hx hi f. N .sound x i hx hi (before x i (omega arith) f);
+                    helds = N .helds;
+                    orig = N .orig;
+                    origs = N .origs;
+                    noted =
+                        record {
+                          plain = N .noted .plain;
+                          oris = λ x i hx hi r e. absurd (never-some (sym (unlisted (s .log) x i (bare x i hx hi) .0) ∙ e));
+                          curs = λ x i hx hi r e. absurd (never-some (sym (unlisted (s .log) x i (bare x i hx hi) .1) ∙ e));
+                        };
+                    parity = λ x p hx hp f. N .parity x p hx hp (before x (parityRole g p) (omega arith) f);
+                    whole = N .whole;
+                    few =
+                        omega (
+                          arith,
+                          N .few,
+                          count-mono (allMembers g) (setAt (logMember g) false (s .failed)) (s .failed) (λ i _. cleared (logMember g) (s .failed) i),
+                        );
+                    one = λ _. setAt-same (logMember g) false (s .failed);
                   };
-              parity = λ x p hx hp f. N .parity x p hx hp (before x (parityRole g p) (omega arith) f);
-              whole = N .whole;
-              few =
-                  omega (
-                    arith,
-                    N .few,
-                    count-mono (allMembers g) (setAt (logMember g) false (s .failed)) (s .failed) (λ i _ e.
-                        elim (ℕ-discrete i (logMember g)) [
-                          | yes h ↦ clash e (setAt-here (logMember g) false (s .failed) i h)
-                          | no h ↦ sym (setAt-other (logMember g) false (s .failed) i h) ∙ e
-                        ]),
-                  );
-              one = λ _. setAt-same (logMember g) false (s .failed);
+              valid =
+                  record {
+                    room = A .valid .room;
+                    fits = A .valid .fits;
+                    modes = A .valid .modes;
+                    zero = A .valid .zero;
+                    top = λ i h. setAt-other (logMember g) false (s .failed) i (λ e. omega arith) ∙ A .valid .top i h;
+                  };
+              idle = A .idle;
             };
-        valid =
-            record {
-              room = A .valid .room;
-              fits = A .valid .fits;
-              modes = A .valid .modes;
-              zero = A .valid .zero;
-              top = λ i h. setAt-other (logMember g) false (s .failed) i (λ e. omega arith) ∙ A .valid .top i h;
-            };
-        idle = A .idle;
+        recalled = fewer-recalled g (cleared (logMember g) (s .failed)) R;
       }
     where
       bare : (x i : ℕ) → x < g .s → i < g .d → listed (s .log) x i ≡ false

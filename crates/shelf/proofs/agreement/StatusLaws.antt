@@ -1,6 +1,6 @@
 -- Laws of the numbers: what an accepted call has passed, and that shelf and book give the same number.
 -- Assumes nothing.
-use mathlib.Core.Bool.{Bool, false, _&&_}
+use mathlib.Core.Bool.{Bool, true, false, _&&_}
 use mathlib.Core.List.{List}
 use mathlib.Core.Path.{_≡_, refl, ap, ap₂, _∙_}
 use Prim.Native.Nat.{ℕ, _+_, _*_, _/_, _%_, _≤_, _<_}
@@ -10,13 +10,13 @@ use lib.Dec.{eqb, ltb}
 use lib.ListN.{length}
 use borrow.Author.Tests.{ltb-false, eqb-true, leb-false, not-false}
 use Rattle.shelf.specs.Counting.{count}
-use Rattle.shelf.specs.Members.{InRange, logMember, allMembers, memberAt, addresses, wanted}
+use Rattle.shelf.specs.Members.{InRange, arrayMembers, logMember, allMembers, memberAt, addresses, wanted}
 use Rattle.shelf.specs.State.{State, listed, marksIn}
-use Rattle.shelf.specs.Status.{Call, start, fail, write, read, fetch, resync, rebuild, newLog, fullResync, badAddress, badData, badMember, notNormal, isNormal, arrayFailed, logFailed, alreadyFailed, limitReached, arraySound, logSound, someListed, withheld, fetchWithheld, dataWithheld, readFailed, row, codeOf}
+use Rattle.shelf.specs.Status.{Call, start, fail, putBack, write, read, fetch, resync, rebuild, newLog, fullResync, badAddress, badData, badMember, notNormal, isNormal, arrayFailed, logFailed, alreadyFailed, limitReached, arraySound, logSound, someListed, withheld, fetchWithheld, dataWithheld, readFailed, row, codeOf}
 use Rattle.shelf.specs.Calls.{code}
 use Rattle.shelf.specs.Book.{Book, bookCode}
 use Rattle.shelf.specs.declared.record.Geometry.{Geometry}
-use Rattle.shelf.proofs.numbers.TableRows.{row-zero, row-ext, blocks-zero}
+use Rattle.shelf.proofs.numbers.TableRows.{row-zero, row-ext, blocks-zero, put-back-zero}
 use Rattle.shelf.proofs.general.CountLaws.{any-ext, any-none}
 use Rattle.shelf.proofs.general.TestLaws.{or-right}
 use Rattle.shelf.proofs.agreement.ListedLaws.{marksIn-ext, stale-ext}
@@ -46,6 +46,9 @@ module _ (g : Geometry) (s : State) where
       let r10 = row-zero 10 (alreadyFailed (s .failed) j) _ (λ e. omega arith) (r6 .1) in
       let r11 = row-zero 11 (limitReached g (s .failed)) 0 (λ e. omega arith) (r10 .1) in
       (ltb-false _ _ (r6 .0), (r10 .0, leb-false _ _ (r11 .0)))
+
+  pub put-back-passed : (j : ℕ) → code g (putBack j) s ≡ 0 → (j < arrayMembers g) × (s .failed j ≡ true)
+  put-back-passed j z = put-back-zero g (s .failed) (s .mode) (listed (s .log)) j z
 
   pub write-passed : (a n : ℕ) (v : List ℕ) → code g (write a n v) s ≡ 0 → (length v ≡ n * g .b) × (arrayFailed g (s .failed) ≡ false)
   unfolding codeOf
@@ -98,6 +101,7 @@ code-marks : (g : Geometry) → 0 < g .d → (f : ℕ → Bool) (mode : ℕ) (m 
 unfolding codeOf
 code-marks g pos f mode m m' e start = refl
 code-marks g pos f mode m m' e (fail j) = refl
+code-marks g pos f mode m m' e (putBack j) = refl
 code-marks g pos f mode m m' e (write a n v) = refl
 code-marks g pos f mode m m' e (read a n len) = refl
 code-marks g pos f mode m m' e (fetch a n len) =

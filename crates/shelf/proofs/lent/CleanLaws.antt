@@ -5,12 +5,11 @@ use mathlib.Core.Bool.{Bool, true, false, _&&_}
 use mathlib.Core.List.{List}
 use mathlib.Core.Option.{none}
 use mathlib.Core.Path.{_≡_, refl, sym, ap, ap₂, _∙_, subst}
-use Prim.Native.Nat.{ℕ, _-_, _≤_, _<_}
-use native.Mathlib.Decide.{decLt}
+use Prim.Native.Nat.{ℕ, _≤_, _<_}
 use native.Mathlib.Omega.{arith}
 use lib.Dec.{ltb}
-use lib.ListN.{length, List·getD-eq-default}
-use borrow.Author.Tests.{eq-eqb, le-leb, ltb-false}
+use lib.ListN.{length}
+use borrow.Author.Tests.{eq-eqb, ltb-false}
 use Rattle.shelf.specs.Counting.{count}
 use Rattle.shelf.specs.Members.{InRange, allMembers, memberAt}
 use Rattle.shelf.specs.State.{listed, stale, marksIn, freshState}
@@ -19,19 +18,21 @@ use Rattle.shelf.specs.Calls.{blockAt}
 use Rattle.shelf.specs.Book.{Book, Marks}
 use Rattle.shelf.specs.Words.{words}
 use Rattle.shelf.specs.HashList.{valid}
-use Rattle.shelf.specs.Lent.{Lent, flagAt, flagFrom, oriBy, curBy, stateOf, badRecord, noneList}
-use Rattle.shelf.specs.Clean.{Clean}
+use Rattle.shelf.specs.Lent.{Lent, flagAt, oriBy, curBy, stateOf, badRecord, noneList}
+use Rattle.shelf.specs.Sequence.{Reported}
+use Rattle.shelf.specs.Clean.{Clean, Recalled}
 use Rattle.shelf.specs.below.Showing.{HoldsList}
 use Rattle.shelf.specs.declared.record.Geometry.{Geometry}
 use Rattle.shelf.specs.declared.record.Shelf.{Shelf}
-use Rattle.shelf.proofs.general.CountLaws.{any-none, none-any}
+use Rattle.shelf.proofs.general.CountLaws.{none-any}
 use Rattle.shelf.proofs.general.TestLaws.{clash, and-fine}
 use Rattle.shelf.proofs.numbers.InputLaws.{in-range, Fine, fine-record, few-flags, lengths-pass}
+use Rattle.shelf.proofs.numbers.FailureLaws.{none-above}
 use Rattle.shelf.proofs.agreement.ListedLaws.{never-some, none-listed, none-marks}
 use Rattle.shelf.proofs.agreement.Agreement.{Agrees}
 use Rattle.shelf.proofs.agreement.ReadLaws.{block-exact}
 use Rattle.shelf.proofs.lent.FreshLaws.{fresh-says}
-use Rattle.shelf.proofs.lent.Holding.{Holds}
+use Rattle.shelf.proofs.lent.Holding.{HoldsAll}
 
 -- ---- record and list, whatever array and log hold
 
@@ -41,13 +42,6 @@ module _ (r : Shelf) (Y : InRange (r .geometry)) (fine : badRecord r ≡ false) 
 
   few : count (allMembers (r .geometry)) (flagAt r) ≤ r .geometry .parities
   few = few-flags r fine (allMembers (r .geometry)) (omega (arith, Y .d-most, Y .parities-most))
-
-  top : length (r .failed) ≡ 19 → (i : ℕ) → allMembers (r .geometry) ≤ i → flagAt r i ≡ false
-  top long i o =
-      elim (decLt i 19) [
-        | yes l ↦ sym (ap (λ (t : Bool). t && flagAt r i) (le-leb (allMembers (r .geometry)) i o)) ∙ any-none 19 (flagFrom (r .failed) (allMembers (r .geometry))) (F .above) i l
-        | no l ↦ List·getD-eq-default (r .failed) false (omega (arith, long))
-      ]
 
   -- in mode 0 nothing is listed, and no log record is in use
   module _ (normal : r .mode ≡ 0) where
@@ -103,7 +97,7 @@ module _ (h : Lent) (b : Book) (C : Clean (h .shelf .geometry) h b) where
   unused : h .shelf .next ≡ 0
   unused = none-used (h .shelf) Y (C .fine) (C .mode)
 
-  clean-agrees : Agrees g (stateOf h) b
+  unfoldable clean-agrees : Agrees g (stateOf h) b
   unfolding stateOf
   clean-agrees =
       record {
@@ -134,22 +128,26 @@ module _ (h : Lent) (b : Book) (C : Clean (h .shelf .geometry) h b) where
               fits = omega (arith, not-marked);
               modes = omega (arith, C .mode);
               zero = λ _. not-marked;
-              top = top (h .shelf) Y (C .fine) (C .flags);
+              top = none-above (h .shelf) (C .fine) (C .flags);
             };
         idle = λ _. (unused, λ e. omega (arith, e, C .mode));
       }
 
-  pub clean-holds : Holds h b
-  clean-holds =
+  pub clean-holds : (k : Reported) → Recalled g (flagAt (h .shelf)) (b .held) (b .held) k → HoldsAll h b k
+  clean-holds k R =
       let n = lengths-pass g (length (h .array)) (length (h .log)) (length (h .list)) (C .lengths) in
       record {
-        agrees = clean-agrees;
-        listed-are = none-in (h .shelf) Y (C .fine) (C .mode) ∙ sym not-marked;
-        flags = C .flags;
-        array = n .0;
-        log = n .1 .0;
-        list = n .1 .1;
-        passes = filled-passes (h .shelf) Y (C .fine) (C .mode) (h .list) (C .list);
+        holds =
+            record {
+              agrees = clean-agrees;
+              listed-are = none-in (h .shelf) Y (C .fine) (C .mode) ∙ sym not-marked;
+              flags = C .flags;
+              array = n .0;
+              log = n .1 .0;
+              list = n .1 .1;
+              passes = filled-passes (h .shelf) Y (C .fine) (C .mode) (h .list) (C .list);
+            };
+        recalled = unfold clean-agrees in R;
       }
 
   -- what a fetch gives of any block is the book's: none is withheld

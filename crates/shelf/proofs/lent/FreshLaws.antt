@@ -54,7 +54,7 @@ block-zeros g n N h =
 array-zeros : (g : Geometry) (x i : ℕ) → x < g .s → i < arrayMembers g → arrayBlock g (replicate (arrayLength g) 0) x i ≡ blank g
 array-zeros g x i hx hi = block-zeros g (placeAt g x i) (arrayMembers g * g .s) (place-lt (g .layout) (g .d) (g .parities) (g .s) x i hx hi)
 
-no-flag : (n i : ℕ) → flag (replicate n false) i ≡ false
+pub no-flag : (n i : ℕ) → flag (replicate n false) i ≡ false
 no-flag zero i = refl
 no-flag (suc n) zero = refl
 no-flag (suc n) (suc i) = no-flag n i

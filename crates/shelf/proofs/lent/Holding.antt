@@ -5,35 +5,37 @@ use mathlib.Core.Bool.{Bool, true, false, _||_}
 use mathlib.Core.List.{List}
 use mathlib.Core.Option.{Option}
 use mathlib.Core.Path.{_≡_, refl, sym, ap, ap₂, _∙_, subst, fun-ext}
-use Prim.Native.Nat.{ℕ, zero, suc, _+_, _-_, _≤_}
+use Prim.Native.Nat.{ℕ, zero, _+_, _-_, _≤_}
 use native.Mathlib.Decide.{decLt, ℕ-discrete}
 use native.Mathlib.Omega.{arith}
 use lib.Dec.{eqb, ltb, leb}
 use lib.ListN.{length, List·getD-eq-default}
 use borrow.Author.Tests.{ne-eqb, le-ltb, leb-true, eqb-true}
 use Rattle.stripe.specs.Blocks.{block}
-use Rattle.shelf.specs.Counting.{bit, count, any}
+use Rattle.shelf.specs.Counting.{count, any}
 use Rattle.shelf.specs.below.Records.{Sized}
 use Rattle.shelf.specs.Members.{InRange, logMember}
 use Rattle.shelf.specs.State.{State, isSome, listed, marksIn}
 use Rattle.shelf.specs.Status.{Call}
 use Rattle.shelf.specs.Calls.{code}
-use Rattle.shelf.specs.Book.{Book, bookCode, bookAfter}
+use Rattle.shelf.specs.Book.{Book, bookWork, bookCode, bookAfter}
 use Rattle.shelf.specs.Words.{words}
 use Rattle.shelf.specs.HashList.{valid}
 use Rattle.shelf.specs.Lent.{Lent, lent, flag, flagFrom, flagAt, stateOf, arrayLength, logLength, listLength, numberOf, recordOf, flagsOf, listedBy, arrayOf, logOf, listOf, Leaves, Answered}
 use Rattle.shelf.specs.below.Showing.{HoldsList}
-use Rattle.shelf.specs.Sequence.{Fed, Changed}
+use Rattle.shelf.specs.Sequence.{Fed, Reported, reportedAfter, Returned, Changed}
+use Rattle.shelf.specs.Clean.{Recalled}
 use Rattle.shelf.specs.declared.record.Geometry.{Geometry}
 use Rattle.shelf.specs.declared.record.Shelf.{Shelf}
 use Rattle.shelf.proofs.general.TestLaws.{and-fine}
-use Rattle.shelf.proofs.general.CountLaws.{none-any}
+use Rattle.shelf.proofs.general.CountLaws.{none-any, count-top}
 use Rattle.shelf.proofs.numbers.InputLaws.{sized, Fine, record-fine, Passed, passed-number}
 use Rattle.shelf.proofs.lent.LayoutLaws.{array-length, array-back, log-length, log-back, role-data, role-parity, flags-length, flag-back}
 use Rattle.shelf.proofs.lent.ListLayout.{laid-holds}
 use Rattle.shelf.proofs.agreement.ListedLaws.{marksIn-ext}
-use Rattle.shelf.proofs.agreement.Agreement.{Agrees, Alike, alike-agrees}
+use Rattle.shelf.proofs.agreement.Agreement.{Agrees, Invariant, Alike, alike-keeps}
 use Rattle.shelf.proofs.lent.HeldBlocks.{disk-block, parity-block}
+use Rattle.shelf.proofs.lent.ReportLaws.{noting, unnoted}
 use Rattle.shelf.proofs.agreement.Steps.{says, keeps, book-accepted, book-refused}
 
 -- What is lent agrees with the book as a state, and passes rows 1 to 3.
@@ -46,16 +48,12 @@ pub record Holds (h : Lent) (b : Book) : Type 0 where
   pub list : length (h .list) ≡ listLength (h .shelf .geometry)
   pub passes : valid (words (h .list)) (h .shelf .geometry) (h .shelf .next) (h .shelf .listed) ≡ true
 
--- ---- numbers 1, 2 and 3 are not given
+-- And what was reported of failed members is what sound ones would hold.
+pub record HoldsAll (h : Lent) (b : Book) (k : Reported) : Type 0 where
+  pub holds : Holds h b
+  pub recalled : Recalled (h .shelf .geometry) (flagAt (h .shelf)) (b .held) (holds .agrees .near .orig) k
 
--- no flag from n on: the count is the same
-count-top : (n m : ℕ) (f : ℕ → Bool) → ((i : ℕ) → n ≤ i → f i ≡ false) → count (n + m) f ≡ count n f
-unfolding count bit
-count-top n zero f h = let q : n + 0 ≡ n = omega arith in ap (λ (k : ℕ). count k f) q
-count-top n (suc m) f h =
-    let q : n + suc m ≡ suc (n + m) = omega arith in
-    let e : bit (f (n + m)) ≡ 0 = ap bit (h (n + m) (omega arith)) in
-    ap (λ (k : ℕ). count k f) q ∙ omega (arith, count-top n m f h, e)
+-- ---- numbers 1, 2 and 3 are not given
 
 module _ (h : Lent) (b : Book) (small : Sized (h .shelf .geometry)) (H : Holds h b) where
   abbrev r : Shelf
@@ -123,17 +121,17 @@ flags-back f top =
       | no h ↦ List·getD-eq-default (flagsOf f) false (omega (arith, flags-length f)) ∙ sym (top i (omega arith))
     ])
 
-module _ {g : Geometry} (Y : InRange g) {s : State} {b : Book} (A : Agrees g s b) where
+module _ {g : Geometry} (Y : InRange g) {s : State} {b : Book} {k : Reported} (I : Invariant g s b k) where
   -- the list that the state is laid out as
   listing : HoldsList g s (marksIn g (listed (s .log))) (listOf g s)
   listing =
-      let N = A .near in
+      let N = I .agrees .near in
       laid-holds g s Y (record {
         oris = λ x i hx hi r e. N .noted .oris x i hx hi r e .0;
         curs = λ x i hx hi r e. N .noted .curs x i hx hi r e .0;
         whole = N .whole;
-        room = A .valid .room;
-        few = A .valid .fits;
+        room = I .agrees .valid .room;
+        few = I .agrees .valid .fits;
       })
 
   laid-alike : Alike g s (stateOf (lent (recordOf g s) (arrayOf g s) (logOf g s) (listOf g s)))
@@ -141,15 +139,15 @@ module _ {g : Geometry} (Y : InRange g) {s : State} {b : Book} (A : Agrees g s b
   laid-alike =
       record {
         disk = λ x i hx hi f.
-            array-back g s x i hx (omega arith) (ap length (role-data g s x i hi) ∙ disk-block A x i hx hi f .0) ∙ role-data g s x i hi;
+            array-back g s x i hx (omega arith) (ap length (role-data g s x i hi) ∙ disk-block (I .agrees) x i hx hi f .0) ∙ role-data g s x i hi;
         parity = λ x p hx hp f.
-            array-back g s x (g .d + p) hx (omega arith) (ap length (role-parity g s x p) ∙ parity-block A x p hx hp f .0) ∙ role-parity g s x p;
+            array-back g s x (g .d + p) hx (omega arith) (ap length (role-parity g s x p) ∙ parity-block (I .agrees) x p hx hp f .0) ∙ role-parity g s x p;
         log = λ r hr f e. log-back g s r hr e;
         next = refl;
         ori = listing .ori;
         cur = listing .cur;
         mode = refl;
-        failed = flags-back (s .failed) (λ i h. A .valid .top i (omega (arith, Y .d-most, Y .parities-most)));
+        failed = flags-back (s .failed) (λ i h. I .agrees .valid .top i (omega (arith, Y .d-most, Y .parities-most)));
       }
 
   laid-marks : marksIn g (listed (s .log)) ≡ marksIn g (listed (stateOf (lent (recordOf g s) (arrayOf g s) (logOf g s) (listOf g s)) .log))
@@ -159,16 +157,22 @@ module _ {g : Geometry} (Y : InRange g) {s : State} {b : Book} (A : Agrees g s b
       (λ x i hx hi. ap₂ (λ (o c : Option ℕ). isSome o || isSome c) (listing .ori x i hx hi) (listing .cur x i hx hi)))
 
   -- and holds
-  pub leaves-holds : (h : Lent) → Leaves g s h → Holds h b
+  pub leaves-holds : (h : Lent) → Leaves g s h → HoldsAll h b k
+  unfolding stateOf
   leaves-holds h L =
-      subst (λ (k : Lent). Holds k b) (sym (leaves-is g s h L)) (record {
-        agrees = alike-agrees laid-alike A;
-        listed-are = laid-marks;
-        flags = flags-length (s .failed);
-        array = array-length g s;
-        log = log-length g s;
-        list = listing .length-of;
-        passes = listing .passes;
+      let J = alike-keeps laid-alike I in
+      subst (λ (l : Lent). HoldsAll l b k) (sym (leaves-is g s h L)) (record {
+        holds =
+            record {
+              agrees = J .agrees;
+              listed-are = laid-marks;
+              flags = flags-length (s .failed);
+              array = array-length g s;
+              log = log-length g s;
+              list = listing .length-of;
+              passes = listing .passes;
+            };
+        recalled = J .recalled;
       })
 
 -- ---- failed members' bytes
@@ -188,23 +192,29 @@ module _ (r : Shelf) (a n l a' n' : List ℕ) (C : Changed (r .geometry) (lent r
         failed = refl;
       }
 
-  same-holds : (b : Book) → Holds (lent r a n l) b → Holds (lent r a' n' l) b
+  same-holds : (b : Book) (k : Reported) → HoldsAll (lent r a n l) b k → HoldsAll (lent r a' n' l) b k
   unfolding stateOf
-  same-holds b H =
+  same-holds b k R =
+      let H = R .holds in
+      let J = alike-keeps changed-alike (record { agrees = H .agrees; recalled = R .recalled }) in
       record {
-        agrees = alike-agrees changed-alike (H .agrees);
-        listed-are = H .listed-are;
-        flags = H .flags;
-        array = C .array-length ∙ H .array;
-        log = C .log-length ∙ H .log;
-        list = H .list;
-        passes = H .passes;
+        holds =
+            record {
+              agrees = J .agrees;
+              listed-are = H .listed-are;
+              flags = H .flags;
+              array = C .array-length ∙ H .array;
+              log = C .log-length ∙ H .log;
+              list = H .list;
+              passes = H .passes;
+            };
+        recalled = J .recalled;
       }
 
-pub changed-holds : (h h' : Lent) (b : Book) → Changed (h .shelf .geometry) h h' → Holds h b → Holds h' b
-changed-holds h h' b C H =
-    subst (λ (k : Lent). Holds k b) (sym e)
-    (same-holds (h .shelf) (h .array) (h .log) (h .list) (h' .array) (h' .log) (subst (λ (k : Lent). Changed (h .shelf .geometry) h k) e C) b H)
+pub changed-holds : (h h' : Lent) (b : Book) (k : Reported) → Changed (h .shelf .geometry) h h' → HoldsAll h b k → HoldsAll h' b k
+changed-holds h h' b k C H =
+    subst (λ (l : Lent). HoldsAll l b k) (sym e)
+    (same-holds (h .shelf) (h .array) (h .log) (h .list) (h' .array) (h' .log) (subst (λ (l : Lent). Changed (h .shelf .geometry) h l) e C) b k H)
   where
     e : h' ≡ lent (h .shelf) (h' .array) (h' .log) (h .list)
     e = λ i. record { shelf = C .shelf i; array = h' .array; log = h' .log; list = C .list i }
@@ -228,11 +238,21 @@ module _ (h : Lent) (b : Book) (Y : InRange (h .shelf .geometry)) (H : Holds h b
   pub answered-code : n ≡ 0 → code (h .shelf .geometry) c (stateOf h) ≡ 0
   answered-code z = says Y (H .agrees) c ∙ sym answered-number ∙ z
 
-  pub answered-holds : Fed c → Holds h' (bookAfter (h .shelf .geometry) c b)
-  answered-holds fed =
+module _ (h : Lent) (b : Book) (k : Reported) (Y : InRange (h .shelf .geometry)) (R : HoldsAll h b k) (c : Call) (n : ℕ) (h' : Lent) (P : Answered h c n h') where
+  pub answered-holds : Fed c → Returned (h .shelf .geometry) h c n k → HoldsAll h' (bookAfter (h .shelf .geometry) c b) (reportedAfter (h .shelf .geometry) h c n k)
+  unfolding stateOf
+  answered-holds fed back =
+      let g = h .shelf .geometry in
+      let H = R .holds in
+      let number = answered-number h b Y H c n h' P in
       elim (ℕ-discrete n 0) [
-        | yes z ↦ subst (λ (k : Book). Holds h' k) (sym (book-accepted (h .shelf .geometry) c b (sym answered-number ∙ z)))
-            (leaves-holds Y (keeps Y c fed (H .agrees) (answered-code z)) h' (P .done z))
-        | no z ↦ subst (λ (k : Book). Holds h' k) (sym (book-refused (h .shelf .geometry) c b (λ e. z (answered-number ∙ e))))
-            (subst (λ (k : Lent). Holds k b) (sym (P .refused z)) H)
+        | yes z ↦
+            subst (λ (e : Book). HoldsAll h' e (reportedAfter g h c n k)) (sym (book-accepted g c b (sym number ∙ z)))
+            (subst (λ (m : ℕ). HoldsAll h' (bookWork g c b) (reportedAfter g h c m k)) (sym z)
+            (leaves-holds Y
+            (keeps Y c k (reportedAfter g h c 0 k) fed (noting h k c (subst (λ (m : ℕ). Returned g h c m k) z back)) (record { agrees = H .agrees; recalled = R .recalled })
+            (answered-code h b Y H c n h' P z)) h' (P .done z)))
+        | no z ↦
+            subst (λ (e : Book). HoldsAll h' e (reportedAfter g h c n k)) (sym (book-refused g c b (λ e. z (number ∙ e))))
+            (subst (HoldsAll h' b) (sym (unnoted h k c n z)) (subst (λ (l : Lent). HoldsAll l b k) (sym (P .refused z)) R))
       ]

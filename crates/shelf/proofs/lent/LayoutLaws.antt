@@ -52,7 +52,7 @@ blocksOf-same (suc N) b u f same =
 -- ---- the array
 
 -- the role of the member that has role i
-role-back : (g : Geometry) (x i : ℕ) → i < g .d + g .parities → roleOf g x (memberAt g x i) ≡ i
+pub role-back : (g : Geometry) (x i : ℕ) → i < g .d + g .parities → roleOf g x (memberAt g x i) ≡ i
 unfolding roleOf
 role-back g x i h =
     let f = first-found (g .d + g .parities) (λ k. eqb (memberAt g x k) (memberAt g x i)) (any-some (g .d + g .parities) (λ k. eqb (memberAt g x k) (memberAt g x i)) i h (eq-eqb (memberAt g x i) (memberAt g x i) refl)) in

@@ -204,6 +204,15 @@ inputs-pass r na nl l rest e =
       d .1,
     )
 
+-- an accepted call passes the rows after 1 to 3 too
+pub inputs-rest : (r : Shelf) (na nl : ℕ) (l : List ℕ) (three : Bool) (rest : ℕ) → inputRows r na nl l three rest ≡ 0 → rest ≡ 0
+unfolding inputRows
+inputs-rest r na nl l three rest e =
+    let a = row-zero 1 (badMeasures (r .geometry)) _ (λ z. omega arith) e in
+    let b = row-zero 1 (badRecord r) _ (λ z. omega arith) (a .1) in
+    let c = row-zero 2 (badLengths (r .geometry) na nl (length l)) _ (λ z. omega arith) (b .1) in
+    row-zero 3 (three && badList r l) rest (λ z. omega arith) (c .1) .1
+
 -- the rows after 1 to 3 are tried where those pass, and only there
 pub inputs-then : (r : Shelf) (na nl : ℕ) (l : List ℕ) (three : Bool) (rest : ℕ) → inputRows r na nl l three 0 ≡ 0 → inputRows r na nl l three rest ≡ rest
 unfolding inputRows

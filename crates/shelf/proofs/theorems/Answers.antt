@@ -1,20 +1,24 @@
 -- The promises of the calls can be kept, and leave nothing open. On whatever is lent each call has an answer that meets `Answered` (`an-answer`), and
 -- one only (`one-answer`): the number, and record, array, log and list as they are handed back. So every list of calls, where the data that they are
--- given are bytes, has a sequence, from whatever is lent on (`a-sequence`).
+-- given are bytes, has a sequence: from whatever is lent on, if what was reported of failed members is what they hold (`a-sequence`), and from a fresh
+-- shelf on (`from-fresh`). In it the bytes of failed members never change, and every put-back has its premise.
 -- Assumes nothing.
 use mathlib.Core.List.{List, [], _∷_}
-use mathlib.Core.Path.{_≡_, refl, sym, _∙_}
+use mathlib.Core.Path.{_≡_, refl, sym, _∙_, subst}
 use Prim.Native.Nat.{ℕ}
 use native.Mathlib.Decide.{ℕ-discrete}
 use lib.ListN.{length}
 use Rattle.shelf.specs.State.{State}
-use Rattle.shelf.specs.Status.{Call, start, fail, write, read, fetch, resync, rebuild, newLog, fullResync}
+use Rattle.shelf.specs.Status.{Call, start, fail, putBack, write, read, fetch, resync, rebuild, newLog, fullResync}
 use Rattle.shelf.specs.Calls.{work}
-use Rattle.shelf.specs.Lent.{Lent, lent, stateOf, numberOf, recordOf, arrayOf, logOf, listOf, Leaves, Answered, readBuffer, fetchBuffer}
-use Rattle.shelf.specs.Sequence.{Fed, Hands, Changed, Sequence, over, step}
+use Rattle.shelf.specs.Lent.{Lent, lent, stateOf, numberOf, recordOf, arrayOf, logOf, listOf, Leaves, Answered, readBuffer, fetchBuffer, formatted}
+use Rattle.shelf.specs.Sequence.{Fed, Hands, Reported, unreported, reportedAfter, Returned, Kept, Changed, Sequence, over, step}
 use Rattle.shelf.specs.declared.record.Geometry.{Geometry}
 use Rattle.shelf.proofs.lent.LeavesLaws.{refused-answered}
-use Rattle.shelf.proofs.lent.Holding.{leaves-is}
+use Rattle.shelf.proofs.lent.Holding.{leaves-is, answered-geometry}
+use Rattle.shelf.proofs.general.TestLaws.{clash}
+use Rattle.shelf.proofs.lent.FreshLaws.{no-flag}
+use Rattle.shelf.proofs.lent.ReportLaws.{kept-returned, kept-after}
 
 -- ---- one call
 
@@ -61,6 +65,7 @@ module _ (h : Lent) (c : Call) where
 handed : (g : Geometry) (h : Lent) (c : Call) (code : ℕ) → (out : List ℕ) × Hands g h c code out
 handed g h start code = ([], tt)
 handed g h (fail j) code = ([], tt)
+handed g h (putBack j) code = ([], tt)
 handed g h (write a n v) code = ([], tt)
 handed g h (read a n len) code = (readBuffer g (stateOf h) a n, λ _. refl)
 handed g h (fetch a n len) code = (fetchBuffer g (stateOf h) a n, λ _. refl)
@@ -79,9 +84,19 @@ abbrev pub AllFed : List Call → Type 0
 AllFed [] = Unit {0}
 AllFed (c ∷ cs) = Fed c × AllFed cs
 
-pub a-sequence : (g : Geometry) (cs : List Call) → AllFed cs → (h : Lent) → Sequence g cs h
-a-sequence g [] fed h = over
-a-sequence g (c ∷ cs) fed h =
+-- from whatever is lent on, where each failed member of the array holds what was reported of it
+pub a-sequence : (g : Geometry) (cs : List Call) → AllFed cs → (h : Lent) (k : Reported) → h .shelf .geometry ≡ g → Kept g h k → Sequence g cs h k
+a-sequence g [] fed h k is kept = over
+a-sequence g (c ∷ cs) fed h k is kept =
     let a = an-answer h c in
     let o = handed g h c (a .0) in
-    step (a .0) (o .0) (a .1) (a .1) (fed .0) (a .2) (o .1) (unchanged g (a .1)) (a-sequence g cs (fed .1) (a .1))
+    let here : Kept (h .shelf .geometry) h k = subst (λ (l : Geometry). Kept l h k) (sym is) kept in
+    step (a .0) (o .0) (a .1) (a .1) (fed .0) (subst (λ (l : Geometry). Returned l h c (a .0) k) is (kept-returned h k here c (a .0) (a .2 .number))) (a .2) (o .1)
+    (unchanged g (a .1))
+    (a-sequence g cs (fed .1) (a .1) (reportedAfter g h c (a .0) k) (answered-geometry h c (a .0) (a .1) (a .2) ∙ is)
+    (subst (λ (l : Geometry). Kept l (a .1) (reportedAfter l h c (a .0) k)) is (kept-after h k here c (a .0) (a .1) (a .2))))
+
+-- and so from a fresh shelf on
+pub from-fresh : (g : Geometry) (cs : List Call) → AllFed cs → Sequence g cs (formatted g) unreported
+unfolding formatted
+from-fresh g cs fed = a-sequence g cs fed (formatted g) unreported refl (λ m x _ _ e. clash e (no-flag 19 m))

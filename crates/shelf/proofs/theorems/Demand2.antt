@@ -10,7 +10,7 @@ use Rattle.shelf.specs.Members.{parityRole, memberAt, blockParity}
 use Rattle.shelf.specs.State.{State, stale}
 use Rattle.shelf.specs.Book.{Book}
 use Rattle.shelf.specs.Lent.{Lent, stateOf, badMeasures}
-use Rattle.shelf.specs.Sequence.{Reached}
+use Rattle.shelf.specs.Sequence.{Reported, Reached}
 use Rattle.shelf.specs.Clean.{Parity}
 use Rattle.shelf.specs.declared.record.Geometry.{Geometry}
 use Rattle.shelf.proofs.general.CountLaws.{any-none}
@@ -40,10 +40,10 @@ parity-here : (h : Lent) (b : Book) → Holds h b → (x : ℕ) → x < h .shelf
 unfolding stateOf
 parity-here h b H x hx rest = record { each = stored (H .agrees) x hx rest }
 
-pub standing-parity : (g : Geometry) (h : Lent) (b : Book) → Stands g h b → (x : ℕ) → x < g .s → stale g (b .state .marks) x ≡ false → Parity g h b x
+pub standing-parity : (g : Geometry) (h : Lent) (b : Book) {k : Reported} → Stands g h b k → (x : ℕ) → x < g .s → stale g (b .state .marks) x ≡ false → Parity g h b x
 standing-parity g h b S =
-    subst (λ (k : Geometry). (x : ℕ) → x < k .s → stale k (b .state .marks) x ≡ false → Parity k h b x) (S .geometry) (parity-here h b (S .holds))
+    subst (λ (l : Geometry). (x : ℕ) → x < l .s → stale l (b .state .marks) x ≡ false → Parity l h b x) (S .geometry) (parity-here h b (S .all .holds))
 
 pub stored-parity : (g : Geometry) → badMeasures g ≡ false → (h : Lent) (b : Book) → Reached g h b
     → (x : ℕ) → x < g .s → stale g (b .state .marks) x ≡ false → Parity g h b x
-stored-parity g fine h b R = standing-parity g h b (stands (in-range g fine) R)
+stored-parity g fine h b R = standing-parity g h b (stands (in-range g fine) (R .1))

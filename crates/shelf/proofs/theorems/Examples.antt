@@ -18,7 +18,7 @@ use Rattle.stripe.specs.Calls.{changed, eachColumn, badMeasures, badLength, bad
 use Rattle.shelf.specs.Counting.{choose, bit, count, total, any, first, lesser, setAt}
 use Rattle.shelf.specs.Members.{logMember, parityRole, memberAt, addressOf, blank, blockParity, otherMissing, workedBack, stripeOf, indexOf}
 use Rattle.shelf.specs.State.{State, isSome, listed, marksIn, freshState}
-use Rattle.shelf.specs.Status.{Call, start, fail, write, read, fetch, resync, rebuild, newLog, fullResync, row, codeOf}
+use Rattle.shelf.specs.Status.{Call, start, fail, putBack, write, read, fetch, resync, rebuild, newLog, fullResync, row, codeOf}
 use Rattle.shelf.specs.Calls.{settled, made, remade, reconstructs, appendOne, append, logged, writeStripe, written, writeTo, blockAt, resynced, rebuilt, work, code, after}
 use Rattle.shelf.specs.Words.{words, bytesOf}
 use Rattle.shelf.specs.HashList.{noneWord, seek, lookup, entriesFrom, entries, putFront, putAll, encode, rises, has, hasAll, isRecord, goodWords, goodEntry, allGood, same, valid, said}
@@ -100,6 +100,13 @@ examples =
     ex (code (small 3) (fetch 0 1 1) k9 ∷ code (small 3) (fetch 2 1 1) k9 ∷ fetchBuffer (small 3) k9 2 1) (14 ∷ 0 ∷ 3 ∷ []) ∷
     -- plain reads there: of blocks 0 and 1 in K8's state; of block 0, of blocks 1 and 2 and what they give in K9's
     ex (code (small 3) (read 0 2 2) k8 ∷ code (small 3) (read 0 1 1) k9 ∷ code (small 3) (read 1 2 2) k9 ∷ readBuffer (small 3) k9 1 2) (16 ∷ 16 ∷ 0 ∷ 7 ∷ 3 ∷ []) ∷
+    -- put-backs there: in K8's state of disks 0 and 1, of disk 2, of Q, of the log and of the number above it; of disk 0 and of the failed log in K9's;
+    -- and what the first leaves: one member failed, disk 1, and the mode
+    ex
+    (code (small 3) (putBack 0) k8 ∷ code (small 3) (putBack 1) k8 ∷ code (small 3) (putBack 2) k8 ∷ code (small 3) (putBack 4) k8 ∷ code (small 3) (putBack 5) k8
+    ∷ code (small 3) (putBack 6) k8 ∷ code (small 3) (putBack 0) k9 ∷ code (small 3) (putBack 5) k9 ∷ [])
+    (0 ∷ 0 ∷ 12 ∷ 12 ∷ 6 ∷ 6 ∷ 0 ∷ 6 ∷ []) ∷
+    (let s = after (small 3) (putBack 0) k8 in ex (count 6 (s .failed) ∷ bit (s .failed 1) ∷ s .mode ∷ []) (1 ∷ 1 ∷ 1 ∷ [])) ∷
     -- K10: the stripe and data index of address 4, the stripe and data index where a write to it stores, and the address there
     ex (stripeOf (small 3) 4 ∷ indexOf (small 3) 4 ∷ first 2 (λ x. any 3 (written (small 3) 4 1 x)) ∷ first 3 (written (small 3) 4 1 1) ∷ addressOf (small 3) 1 1 ∷ [])
     (1 ∷ 1 ∷ 1 ∷ 1 ∷ 4 ∷ []) ∷
@@ -117,7 +124,7 @@ examples =
 
 pub all-hold : Holds examples
 unfolding badMeasures badLength badMember tooMany makeCode membersCode recoverCode accepted makeBuffer recoverBuffer double pow2 timesLow times raised inverse from gen block byteOf blocksOf changed eachColumn pick sum one weight parityP parityQ weightIn parityOf parity.made without restP restQ fromP fromQ fromBoth solved dataSolved recovered fixed memberOf choose bit count total any first lesser setAt blank blockParity otherMissing workedBack isSome freshState row codeOf settled made remade appendOne append logged writeStripe writeTo blockAt resynced rebuilt work after afterAll bufferOf
-all-hold = (refl, (refl, (refl, (refl, (refl, (refl, (refl, (refl, (refl, (refl, (refl, (refl, (refl, (refl, tt))))))))))))))
+all-hold = (refl, (refl, (refl, (refl, (refl, (refl, (refl, (refl, (refl, (refl, (refl, (refl, (refl, (refl, (refl, (refl, tt))))))))))))))))
 
 -- ---- the printed session
 
@@ -159,6 +166,7 @@ fetched = sessionWith (line (fetch 1 1 1) 0 1 1 2 7)
 unfoldable pub firstByte : Call → ℕ → (ℕ → ℕ → List ℕ) → (ℕ → ℕ → List ℕ) → ℕ
 firstByte start n plain full = 0
 firstByte (fail j) n plain full = 0
+firstByte (putBack j) n plain full = 0
 firstByte (write a k v) n plain full = 0
 firstByte (read a k len) n plain full = choose (eqb n 0) (getD (plain a k) 0 0) 0
 firstByte (fetch a k len) n plain full = choose (eqb n 0) (getD (full a k) 0 0) 0
@@ -403,6 +411,9 @@ onBytes =
     (n 0 6 (eqb 19) ∷ n 3 12 (eqb 19) ∷ n 1 8 (eqb 19) ∷ n 1 10 (eqb 19) ∷ n 1 8 (eqb 0) ∷ n 1 8 (eqb 4) ∷ n 1 8 (eqb 5) ∷ n 1 8 (λ i. eqb i 0 || eqb i 4)
     ∷ n 2 8 (eqb 19) ∷ n 2 10 (eqb 5) ∷ n 2 10 (eqb 6) ∷ n 2 10 (λ i. eqb i 0 || eqb i 5) ∷ n 2 10 (λ i. ltb i 3) ∷ [])
     (1 ∷ 1 ∷ 0 ∷ 2 ∷ 0 ∷ 0 ∷ 1 ∷ 1 ∷ 2 ∷ 0 ∷ 1 ∷ 0 ∷ 1 ∷ [])) ∷
+    -- put-backs: with one parity of the failed disk, of the sound P and of the failed log, member 4; with two of the failed Q, member 4, and of the log
+    (let n : ℕ → ℕ → ℕ → ℕ → ℕ = λ p len failed j. numberOf (flagged p (flagsFrom 0 19 (eqb failed))) len 4 (replicate 72 255) (putBack j) in
+    ex (n 1 8 0 0 ∷ n 1 8 0 3 ∷ n 1 8 4 4 ∷ n 2 10 4 4 ∷ n 2 10 5 5 ∷ []) (0 ∷ 12 ∷ 6 ∷ 0 ∷ 6 ∷ [])) ∷
     -- number 2: array, log and list one byte too long
     ex
     (numberOf (recordWith 1 2 1) 11 4 (oneListed 1 0 1 noneWord) start ∷ numberOf (recordWith 1 2 1) 10 5 (oneListed 1 0 1 noneWord) start
@@ -440,4 +451,4 @@ onBytes =
 pub bytes-hold : Holds onBytes
 unfolding block byteOf from gen blocksOf fixed memberOf place choose bit count total any first lesser setAt blank blockParity otherMissing workedBack isSome freshState row codeOf settled made appendOne append logged writeStripe writeTo blockAt work after afterAll words bytesOf seek lookup entriesFrom entries putFront putAll encode rises has hasAll isRecord goodWords goodEntry allGood same valid said recordAt stateOf rows.badMeasures badRecord badLengths triesList inputRows numberOf flagsFrom roleOf arrayOf logOf wordOf entriesOf listOf bufferOf formatCode formatted
 bytes-hold =
-    (refl, (refl, (refl, (refl, (refl, (refl, (refl, (refl, (refl, (refl, (refl, (refl, (refl, (refl, (refl, (refl, (refl, (refl, tt))))))))))))))))))
+    (refl, (refl, (refl, (refl, (refl, (refl, (refl, (refl, (refl, (refl, (refl, (refl, (refl, (refl, (refl, (refl, (refl, (refl, (refl, tt)))))))))))))))))))

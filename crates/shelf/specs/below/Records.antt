@@ -5,13 +5,13 @@ use Prim.Native.Nat.{ℕ, _≤_}
 use lib.Dec.{ltb}
 use lib.ListN.{set, replicate}
 use Rattle.shelf.specs.Members.{memberAt}
-use Rattle.shelf.specs.Status.{Call, start, fail, write, read, fetch, resync, rebuild, newLog, fullResync, row, logSound}
+use Rattle.shelf.specs.Status.{Call, start, fail, putBack, write, read, fetch, resync, rebuild, newLog, fullResync, row, logSound}
 use Rattle.shelf.specs.Calls.{modeWithout, nextLeft, modeLeft, arrayCleared}
 use Rattle.shelf.specs.Lent.{flagAt, flagsOf}
 use Rattle.shelf.specs.declared.record.Geometry.{Geometry}
 use Rattle.shelf.specs.declared.record.Shelf.{Shelf}
 use Rattle.shelf.specs.declared.status.Request.{Request}
-use Rattle.shelf.specs.declared.status.Request.the-variants.{Start, Fail, Write, Read, Fetch, Resync, Rebuild, NewLog, FullResync}
+use Rattle.shelf.specs.declared.status.Request.the-variants.{Start, Fail, PutBack, Write, Read, Fetch, Resync, Rebuild, NewLog, FullResync}
 
 -- what is asked of the measures where only the number of members matters
 abbrev pub Sized : Geometry → Type 0
@@ -62,6 +62,7 @@ newLogRows r = row 12 (logSound (r .geometry) (flagAt r)) (row 13 (ltb 0 (r .lis
 abbrev pub callOf : Request → Call
 callOf Start = start
 callOf (Fail j) = fail j
+callOf (PutBack j) = putBack j
 callOf (Write a n len) = write a n (replicate len 0)
 callOf (Read a n len) = read a n len
 callOf (Fetch a n len) = fetch a n len

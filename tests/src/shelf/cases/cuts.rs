@@ -76,7 +76,7 @@ fn as_found(mut shelf: Shelf, random: &mut Random) -> Pair {
     if failed[m.log()] != 0 {
         book.enter(Call::Fail(m.log()), &[]);
     }
-    let mut pair = Pair { shelf, book };
+    let mut pair = Pair::of(shelf, book);
     let blocks: Vec<u8> = (0..m.d * m.s).flat_map(|address| block(&pair, address).to_vec()).collect();
     pair.book.enter(write(0, m.d * m.s), &blocks);
     pair
@@ -93,18 +93,10 @@ fn is_of(trail: &[Pair], address: usize, block: &[u8]) -> bool {
     (0..block.len()).all(|at| trail.iter().any(|pair| pair.book.block(address)[at] == block[at]))
 }
 
-/// Makes a call on a shelf beside its book. Fails unless it is accepted.
-fn accepted(pair: &mut Pair, call: Call, data: Buffer, stand: &mut Stand) -> Result<(), String> {
-    match pair.step(call, data, stand)? {
-        0 => Ok(()),
-        code => Err(format!("{call:?} answers {code}, not 0; the shelf: {}", pair.shelf)),
-    }
-}
-
 /// The full resync of a shelf as it is found. Fails unless it is accepted and stores parity alone.
 fn resynced(shelf: Shelf, stand: &mut Stand, random: &mut Random) -> Result<Pair, String> {
     let mut pair = as_found(shelf, random);
-    accepted(&mut pair, Call::FullResync, Buffer::empty(), stand)?;
+    pair.accepted(Call::FullResync, Buffer::empty(), stand)?;
     pair.holds()?;
     Ok(pair)
 }
@@ -122,12 +114,12 @@ fn by_full_resync(trail: &[Pair], stand: &mut Stand, random: &mut Random) -> Res
         return Ok(());
     }
     for &member in &lost {
-        accepted(&mut pair, Call::Fail(member), Buffer::empty(), stand)?;
+        pair.accepted(Call::Fail(member), Buffer::empty(), stand)?;
     }
     pair.spoil();
     let data = Buffer::of(vec![231; m.d * m.s * m.b]);
-    accepted(&mut pair, fetch(0, m.d * m.s), data, stand)?;
-    accepted(&mut pair, Call::Rebuild, Buffer::empty(), stand)?;
+    pair.accepted(fetch(0, m.d * m.s), data, stand)?;
+    pair.accepted(Call::Rebuild, Buffer::empty(), stand)?;
     pair.holds()
 }
 
@@ -158,7 +150,7 @@ fn with_failures(trail: &Trail, stand: &mut Stand, random: &mut Random) -> Resul
     for &member in &failed {
         note(member, &mut shelf, stand)?;
     }
-    let mut pair = Pair { shelf, book: states[0].book.clone() };
+    let mut pair = Pair::of(shelf, states[0].book.clone());
     pair.spoil();
     match made(Call::Rebuild, &mut pair.shelf, stand)? {
         0 => {}
@@ -233,11 +225,11 @@ fn repeated(trail: &[Pair], stand: &mut Stand, random: &mut Random) -> Result<[u
 /// written, but in the stripes that may lose a block. Hands back how many are lost.
 fn with_another(trail: &[Pair], stand: &mut Stand, random: &mut Random) -> Result<usize, String> {
     let shelf = Shelf { list: trail[0].shelf.list.clone(), ..cut(trail, random) };
-    let mut pair = Pair { shelf, book: trail[0].book.clone() };
+    let mut pair = Pair::of(shelf, trail[0].book.clone());
     let m = pair.shelf.record.measures;
-    let (member, len) = (some_members(&pair, 1, random)[0], m.s * m.b);
+    let member = some_members(&pair, 1, random)[0];
     note(member, &mut pair.shelf, stand)?;
-    pair.shelf.array.bytes[member * len..(member + 1) * len].fill(231);
+    pair.shelf.member(member).fill(231);
     let may: Vec<bool> = (0..m.s).map(|stripe| may_lose(&pair, stripe)).collect();
     if made(Call::Rebuild, &mut pair.shelf, stand)? != 0 {
         return Err(format!("the rebuild is refused; before it the shelf was {}", trail[0].shelf));

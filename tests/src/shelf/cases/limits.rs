@@ -86,17 +86,17 @@ fn damaged(shelf: &Shelf, counts: &mut Damaged, stand: &mut Stand, random: &mut 
     Ok(())
 }
 
-/// Fails unless the calls on a shelf, on the shelf with as many members failed as may be, with one more or with a flag
-/// above the log, with wrong lengths told, and with a layout or a count of parities that is none, or is the other one,
-/// do as the model does.
+/// Fails unless the calls on a shelf, on the shelf with the last disk or with as many members failed as may be, with
+/// one more or with a flag above the log, with wrong lengths told, and with a layout or a count of parities that is
+/// none, or is the other one, do as the model does.
 fn tried(shelf: &Shelf, stand: &mut Stand) -> Result<(), String> {
     let m = shelf.record.measures;
     let log = m.log();
-    let sets = [&[][..], &[log, 0][..m.parities], &[log, 0, 1][..m.parities + 1], &[(log + 1).min(18)]];
+    let sets = [&[][..], &[log - 1], &[log, 0][..m.parities], &[log, 0, 1][..m.parities + 1], &[(log + 1).min(18)]];
+    let named = [log, log + 1, 1].map(Call::Fail).into_iter().chain([0, log - 1, log, log + 1].map(Call::PutBack));
+    let calls: Vec<Call> = named.chain([Call::Start, Call::NewLog]).collect();
     for shelf in sets.map(|members| with_failed(shelf, members)) {
-        for call in [Call::Start, Call::Fail(log), Call::Fail(log + 1), Call::Fail(1), Call::NewLog] {
-            stand.as_model(call, &shelf)?;
-        }
+        calls.iter().try_for_each(|&call| stand.as_model(call, &shelf).map(|_| ()))?;
     }
     for wrong in [1, 1 << 31, 1 << 32, 1 << 33] {
         let mut damaged = shelf.clone();

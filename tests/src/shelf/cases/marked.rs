@@ -8,7 +8,7 @@ use crate::shelf::model::numbers::NONE as N;
 use crate::Outcome;
 
 /// K4's stripe with block 1 logged as 7.
-const LOGGED: [Step; 3] = [
+pub const LOGGED: [Step; 3] = [
     (write(0, 3), &[1, 2, 3], [0, 0, 0, 0], &[], &[Array(&[1, 2, 3, 0, 9])]),
     (Call::Start, &[], [0, 1, 0, 0], &[], &[]),
     (write(1, 1), &[7], [0, 1, 1, 2], &[], &[Array(&[1, 7, 3, 0, 9]), Log(&[2, 7, 0, 0]), List(&[N, 0, 1, 0, 1, N])]),

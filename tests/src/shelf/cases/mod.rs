@@ -7,6 +7,7 @@ pub mod order;
 pub mod printed;
 pub mod random;
 pub mod rebuilds;
+pub mod returned;
 pub mod rotation;
 pub mod rows;
 pub mod sequences;

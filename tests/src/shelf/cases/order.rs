@@ -10,11 +10,12 @@ use crate::shelf::model::numbers::NONE as N;
 use crate::Outcome;
 
 /// Every call that tests the list gets 3, where the record has this mode, and so many blocks listed and records used.
-const fn all_refused(mode: usize, listed: usize, next: usize) -> [Step; 8] {
+const fn all_refused(mode: usize, listed: usize, next: usize) -> [Step; 9] {
     let line = [3, mode, listed, next];
     [
         (Call::Start, &[], line, &[], &[]),
         (Call::Fail(0), &[], line, &[], &[]),
+        (Call::PutBack(0), &[], line, &[], &[]),
         (Call::NewLog, &[], line, &[], &[]),
         (write(1, 1), &[5], line, &[], &[]),
         (read(1, 1), &[99], line, &[], &[]),

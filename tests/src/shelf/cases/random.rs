@@ -108,8 +108,7 @@ fn miscounted(random: &mut Random) -> Plan {
 /// Fails unless such a shelf gets 1 by its flags, else 2 by the array's length: a record that names one parity may have
 /// no two flags, none above d + 1, and not that of d + 1 in mode 1.
 fn told_apart(shelf: &Shelf, stand: &mut Stand, counts: &mut Miscounts) -> Result<(), String> {
-    let Record { measures: m, mode, failed, .. } = shelf.record;
-    let members: Vec<usize> = (0..19).filter(|&member| failed[member] != 0).collect();
+    let (Record { measures: m, mode, .. }, members) = (shelf.record, shelf.failed());
     let is_wrong = |&member: &usize| member > m.d + 1 || member == m.d + 1 && mode == 1;
     let due = if m.parities == 1 && (members.len() > 1 || members.iter().any(is_wrong)) { 1 } else { 2 };
     counts[m.layout][m.parities - 1][due - 1] += 1;
@@ -164,7 +163,7 @@ fn shelf(plan: Plan, random: &mut Random) -> Shelf {
     }
 }
 
-/// A member to fail: mostly one that is there, else next to the last one or nonsense.
+/// A member to fail or to put back: mostly one that is there, else next to the last one or nonsense.
 fn some_member(m: Measures, random: &mut Random) -> usize {
     match random.below(8) {
         0 => m.log().wrapping_add(1),
@@ -175,15 +174,23 @@ fn some_member(m: Measures, random: &mut Random) -> usize {
     }
 }
 
+/// A member to put back: one that has failed, the log at times, or any.
+fn some_failed(shelf: &Shelf, random: &mut Random) -> usize {
+    let failed = lists::one_of(&shelf.failed(), random).filter(|_| random.below(4) != 0);
+    failed.unwrap_or_else(|| some_member(shelf.record.measures, random))
+}
+
 /// The calls in the order in which a shelf is lent to them. Those that store come last: if one of them took what it must
 /// refuse, the others would most likely have told so before it stores anything.
-fn every_call(m: Measures, random: &mut Random) -> [(Call, Buffer); CALLS] {
+fn every_call(shelf: &Shelf, random: &mut Random) -> [(Call, Buffer); CALLS] {
+    let m = shelf.record.measures;
     let kinds: [fn(usize, usize) -> Call; 3] = [read, fetch, write];
     let [read, fetch, write] = kinds.map(|kind| some_request(kind, m, random));
     let alone = |call: Call| (call, Buffer::empty());
     [
         alone(Call::Start),
         alone(Call::Fail(some_member(m, random))),
+        alone(Call::PutBack(some_failed(shelf, random))),
         alone(Call::NewLog),
         read,
         fetch,
@@ -203,13 +210,13 @@ fn some_request(kind: fn(usize, usize) -> Call, m: Measures, random: &mut Random
 
 /// Lends a shelf to every call, then to some one after another but to format, all but the data being handed on.
 fn tried(shelf: &mut Shelf, stand: &mut Stand, tally: &mut Tally, random: &mut Random) -> Result<(), String> {
-    for (call, data) in every_call(shelf.record.measures, random) {
+    for (call, data) in every_call(shelf, random) {
         shelf.data = data;
         reads::compare(call, shelf, stand, random)?;
         tally.count(call, shelf, &stand.as_model(call, shelf)?);
     }
     for _ in 0..4 {
-        let mut calls = every_call(shelf.record.measures, random);
+        let mut calls = every_call(shelf, random);
         let (call, data) = &mut calls[pick(CALLS - 1, random)];
         std::mem::swap(&mut shelf.data, data);
         tally.count(*call, shelf, &stand.as_model(*call, shelf)?);

@@ -184,11 +184,14 @@ impl Twins<'_> {
         Ok(Twins { rows, fixed, rotating })
     }
 
-    /// Makes a call on both; a member of the fixed one that fails is that of the same role on the rotating one, where
-    /// there is one stripe. Fails unless both answer and give the same and stay alike. Hands back the number.
+    /// Makes a call on both; a member of the fixed one that fails or is put back is that of the same role on the
+    /// rotating one, where there is one stripe. Fails unless both answer and give the same and stay alike. Hands back
+    /// the number.
     fn step(&mut self, call: Call, data: Buffer, stand: &mut Stand) -> Result<usize, String> {
+        let turned = |member: usize| self.rows[0].get(member).copied().unwrap_or(member);
         let turned = match call {
-            Call::Fail(member) => Call::Fail(self.rows[0].get(member).copied().unwrap_or(member)),
+            Call::Fail(member) => Call::Fail(turned(member)),
+            Call::PutBack(member) => Call::PutBack(turned(member)),
             _ => call,
         };
         let code = self.fixed.step(call, data.clone(), stand)?;
@@ -283,7 +286,7 @@ fn shelves(parities: usize, stand: &mut Stand) -> Result<Vec<(Shelf, Vec<Call>)>
     Ok(vec![
         (fresh.shelf.clone(), on_fresh),
         (started, vec![Call::Resync]),
-        (failed, vec![Call::Rebuild]),
+        (failed, vec![Call::PutBack(1), Call::Rebuild]),
         (without_log, vec![Call::NewLog]),
     ])
 }

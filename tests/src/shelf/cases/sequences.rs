@@ -1,6 +1,8 @@
 //! Random sequences of calls from a fresh shelf, against the model and against the book. Each call gets the record and
-//! the buffers as the one before left them, save that the bytes of failed members change at will. Now and then the list
-//! is arranged in another way that says the same: the call is first made on that list, and must be refused with 3. Each
+//! the buffers as the one before left them, save that the bytes of failed members change at will, and that a member
+//! which is put back holds what it held when it was reported. Some sequences end with calls after a member was put back
+//! with other bytes: then the blocks are the model's, and the book has the numbers alone. Now and then the list is
+//! arranged in another way that says the same: the call is first made on that list, and must be refused with 3. Each
 //! plain read is made beside a recovering one too.
 
 use crate::random::Random;
@@ -19,8 +21,11 @@ use crate::shelf::model::roles;
 use crate::Outcome;
 
 /// How many sequences are made, and the most calls of one.
-const SEQUENCES: usize = 12_000;
+const SEQUENCES: usize = 15_000;
 const LONGEST: usize = 96;
+
+/// The most calls after a member was put back with other bytes than it had.
+const LAST: usize = 12;
 
 /// The most bytes of an array of which all blocks are compared with the book's after every call.
 const SMALL: usize = 600;
@@ -79,16 +84,26 @@ fn member(shelf: &Shelf, random: &mut Random) -> usize {
     }
 }
 
-/// How often each call is made in the record's condition: start, fail, new log, write, read, fetch, resync, rebuild,
-/// full resync. A busy shelf has few failures, a poor one many.
-fn weights(r: &Record, busy: bool) -> [u64; 9] {
+/// A member to put back: mostly one that has failed, the log too; else any, or one that is none of the array.
+fn member_back(shelf: &Shelf, random: &mut Random) -> usize {
+    let log = shelf.record.measures.log();
+    match (random.below(8), one_of(&shelf.failed(), random)) {
+        (0, _) => records::above(log - 1, random),
+        (1, _) | (_, None) => pick(log, random),
+        (_, Some(member)) => member,
+    }
+}
+
+/// How often each call is made in the record's condition: start, fail, put back, new log, write, read, fetch, resync,
+/// rebuild, full resync. A busy shelf has few failures, a poor one many.
+fn weights(r: &Record, busy: bool) -> [u64; 10] {
     let array_failed = r.failed[..r.measures.log()].contains(&1);
     let fails = if busy { 1 } else { 6 };
     match (array_failed, r.mode) {
-        (true, _) => [1, 4, 2, 2, 14, 14, 1, if busy { 8 } else { 3 }, 1],
-        (false, 0) => [14, fails, if r.failed.contains(&1) { 8 } else { 1 }, 6, 3, 3, 1, 1, 1],
-        (false, 1) => [1, fails, 1, 24, 3, 4, if busy { 1 } else { 3 }, 1, u64::from(!busy)],
-        (false, _) => [1, 3 + fails, 1, 5, 4, 4, 5, 1, 1],
+        (true, _) => [1, 4, 4, 2, 2, 14, 14, 1, if busy { 8 } else { 3 }, 1],
+        (false, 0) => [14, fails, 1, if r.failed.contains(&1) { 8 } else { 1 }, 6, 3, 3, 1, 1, 1],
+        (false, 1) => [1, fails, 1, 1, 24, 3, 4, if busy { 1 } else { 3 }, 1, u64::from(!busy)],
+        (false, _) => [1, 3 + fails, 1, 1, 5, 4, 4, 5, 1, 1],
     }
 }
 
@@ -119,13 +134,14 @@ pub fn next_call(shelf: &Shelf, busy: bool, random: &mut Random) -> (Call, Buffe
     let call = match at {
         0 => Call::Start,
         1 => Call::Fail(member(shelf, random)),
-        2 => Call::NewLog,
-        3..=5 => {
+        2 => Call::PutBack(member_back(shelf, random)),
+        3 => Call::NewLog,
+        4..=6 => {
             let request = request(shelf, random);
-            return (request.call(kinds[at - 3]), request.data(m, random));
+            return (request.call(kinds[at - 4]), request.data(m, random));
         }
-        6 => Call::Resync,
-        7 => Call::Rebuild,
+        7 => Call::Resync,
+        8 => Call::Rebuild,
         _ => Call::FullResync,
     };
     (call, Buffer::empty())
@@ -143,10 +159,8 @@ fn same_again(call: Call, book: &Book, data: &mut Buffer) {
 
 /// Changes bytes of the failed members: all of them, a few, or none.
 fn garble(shelf: &mut Shelf, random: &mut Random) {
-    let (m, size) = (shelf.record.measures, shelf.record.measures.s * shelf.record.measures.b);
-    for member in (0..=m.log()).filter(|&member| shelf.record.failed[member] != 0) {
-        let is_log = member == m.log();
-        let bytes = if is_log { &mut shelf.log.bytes[..] } else { &mut shelf.array.bytes[member * size..][..size] };
+    for member in shelf.failed() {
+        let bytes = shelf.member(member);
         match random.below(4) {
             0 => random.fill(bytes),
             1 => {
@@ -176,7 +190,7 @@ fn rearranged(call: Call, shelf: &Shelf, stand: &mut Stand, random: &mut Random)
 }
 
 /// Resyncs a shelf without failed array members to the end: as many calls as stripes wait, and no fewer.
-fn resynced(pair: &mut Pair, stand: &mut Stand) -> Result<(), String> {
+pub fn resynced(pair: &mut Pair, stand: &mut Stand) -> Result<(), String> {
     let waiting = pair.book.awaiting();
     for left in (0..waiting).rev() {
         let code = pair.step(Call::Resync, Buffer::empty(), stand)?;
@@ -187,31 +201,55 @@ fn resynced(pair: &mut Pair, stand: &mut Stand) -> Result<(), String> {
     Ok(())
 }
 
-/// What the sequences of a layout and a count of parities came through: the calls by number, how many fetches and
-/// rebuilds were withheld, how many calls of each kind were refused for the arrangement of the list, and how often each
-/// member was noted as failed, with d 2 and with d 16.
+/// Puts a failed member of the array back, if there is one, with other bytes than it had when it was reported, and
+/// makes some calls after it. Fails unless they do as the model does, with the numbers, counts, members and marks of
+/// the book. Hands back whether there was such a member.
+fn unlike(pair: &mut Pair, busy: bool, stand: &mut Stand, random: &mut Random) -> Result<bool, String> {
+    let log = pair.shelf.record.measures.log();
+    let failed: Vec<usize> = pair.shelf.failed().into_iter().filter(|&member| member < log).collect();
+    let Some(member) = one_of(&failed, random) else {
+        return Ok(false);
+    };
+    random.fill(pair.shelf.member(member));
+    if !pair.is_changed(member) {
+        pair.shelf.member(member)[0] ^= 1;
+    }
+    pair.numbered(Call::PutBack(member), Buffer::empty(), stand)?;
+    for _ in 0..pick(LAST, random) {
+        garble(&mut pair.shelf, random);
+        let (call, data) = next_call(&pair.shelf, busy, random);
+        pair.numbered(call, data, stand)?;
+    }
+    Ok(true)
+}
+
+/// What the sequences of a layout and a count of parities came through: each call by number, how many of each kind were
+/// refused for the arrangement of the list, how often each member was noted as failed, and put back, with d 2 and with
+/// d 16, and how many were put back after their bytes had changed and were given back, and with other bytes.
 #[derive(Default)]
 struct Counts {
-    accepted: usize,
-    given: [usize; CODES],
-    withheld: [usize; 2],
+    given: [[usize; CODES]; CALLS],
     rearranged: [usize; CALLS],
-    noted: [[usize; 19]; 2],
+    noted: [[[usize; 19]; 2]; 2],
+    returned: usize,
+    unlike: usize,
 }
 
 impl Counts {
-    /// Counts a call.
-    fn count(&mut self, call: Call, code: usize) {
-        self.accepted += usize::from(code == 0);
-        self.given[code] += 1;
-        self.withheld[usize::from(call == Call::Rebuild)] += usize::from(code == 14);
+    /// Counts a call on a shelf of so many data disks: each member that is noted as failed or put back where d is the
+    /// least or the greatest.
+    fn count(&mut self, d: usize, call: Call, code: usize) {
+        self.given[tally::index(call)][code] += 1;
+        match (call, [2, 16].iter().position(|&limit| limit == d), code) {
+            (Call::Fail(member), Some(at), 0) => self.noted[0][at][member] += 1,
+            (Call::PutBack(member), Some(at), 0) => self.noted[1][at][member] += 1,
+            _ => {}
+        }
     }
 
-    /// Counts a failure that was noted, where d is the least or the greatest.
-    fn count_noted(&mut self, d: usize, call: Call, code: usize) {
-        if let (Call::Fail(member), Some(at), 0) = (call, [2, 16].iter().position(|&limit| limit == d), code) {
-            self.noted[at][member] += 1;
-        }
+    /// How often a call got a number.
+    fn times(&self, call: Call, code: usize) -> usize {
+        self.given[tally::index(call)][code]
     }
 
     /// Counts a call on a list in another arrangement.
@@ -219,32 +257,39 @@ impl Counts {
         self.rearranged[tally::index(call)] += usize::from(code == Some(3));
     }
 
-    /// Fails unless each number from 4 on that a call can answer with so many parities was given so many times and no
-    /// other was, 14 by fetch and by rebuild, and 3 by each call that tests the list, and each member was noted as
-    /// failed.
+    /// Fails unless each call but format was accepted and got each number from 4 on that it can answer with so many
+    /// parities, each so many times, and no other; each call that tests the list got 3 for its arrangement; members
+    /// were put back with the bytes that they had and with others; and each was noted as failed, and put back.
     fn complete(&self, parities: usize, at_least: usize) -> Result<(), String> {
         let tests_list = |call: usize| tally::answers(call, 3, parities);
         if let Some(call) = (0..CALLS).find(|&call| tests_list(call) && self.rearranged[call] < at_least) {
             let (name, count) = (tally::name(call), self.rearranged[call]);
             return Err(format!("{name} was refused {count} times for the arrangement of the list, not {at_least}"));
         }
-        let can_be = |code: usize| (0..CALLS).any(|call| tally::answers(call, code, parities));
-        let due = |code: usize| if can_be(code) { at_least } else { 0 };
-        let is_right = |code: usize, count: usize| if can_be(code) { count >= at_least } else { count == 0 };
-        if let Some(code) = (4..CODES).find(|&code| !is_right(code, self.given[code])) {
-            return Err(format!("{code} was given {} times, not {}", self.given[code], due(code)));
+        let format = tally::index(Call::Format);
+        for (call, code) in (0..CALLS).flat_map(|call| (0..CODES).map(move |code| (call, code))) {
+            let can_be = call != format && (code == 0 || code > 3 && tally::answers(call, code, parities));
+            let (name, count, due) = (tally::name(call), self.given[call][code], if can_be { at_least } else { 0 });
+            if count < due || count > 0 && !can_be {
+                return Err(format!("{name} got {code} {count} times, not {due}"));
+            }
         }
-        if !self.withheld.iter().all(|&count| is_right(14, count)) {
-            return Err(format!("of fetch and rebuild {:?} were withheld, not {}", self.withheld, due(14)));
+        if self.returned.min(self.unlike) < at_least {
+            let counts = [self.returned, self.unlike];
+            return Err(format!("{counts:?} members were put back as they were and with other bytes, not {at_least}"));
         }
         self.all_noted(parities)
     }
 
-    /// Fails unless each member was noted as failed, the log too, and no other was, with d 2 and with d 16.
+    /// Fails unless each member was noted as failed, the log too, each was put back, the log not, and no other was,
+    /// with d 2 and with d 16.
     fn all_noted(&self, parities: usize) -> Result<(), String> {
-        for (d, noted) in [2, 16].into_iter().zip(&self.noted) {
-            if let Some(member) = (0..19).find(|&member| (noted[member] > 0) != (member <= d + parities)) {
-                return Err(format!("with d {d} member {member} was noted as failed {} times", noted[member]));
+        for ((calls, noted), what) in self.noted.iter().enumerate().zip(["noted as failed", "put back"]) {
+            for (d, noted) in [2, 16].into_iter().zip(noted) {
+                let is_due = |member: usize| member + calls <= d + parities;
+                if let Some(member) = (0..19).find(|&member| (noted[member] > 0) != is_due(member)) {
+                    return Err(format!("with d {d} member {member} was {what} {} times", noted[member]));
+                }
             }
         }
         Ok(())
@@ -268,12 +313,20 @@ fn sequence(stand: &mut Stand, counts: &mut [[Counts; 2]; 2], random: &mut Rando
         if random.below(8) == 0 {
             same_again(call, &pair.book, &mut data);
         }
+        counts.returned += usize::from(matches!(call, Call::PutBack(member) if pair.is_changed(member)));
+        let before = pair.shelf.record;
         let code = pair.step(call, data, stand)?;
-        counts.count(call, code);
-        counts.count_noted(m.d, call, code);
+        counts.count(m.d, call, code);
         if is_small || random.below(16) == 0 {
             pair.holds()?;
         }
+        if code == 0 && random.below(4) == 0 {
+            pair.takes_back(call, &before, stand)?;
+        }
+    }
+    if random.below(4) == 0 && unlike(&mut pair, is_busy, stand, random)? {
+        counts.unlike += 1;
+        return Ok(());
     }
     if !pair.shelf.record.failed[..m.log()].contains(&1) {
         resynced(&mut pair, stand)?;
@@ -297,13 +350,17 @@ pub fn group(seed: u64) -> Outcome {
     Ok(format!(
         "{} calls in {SEQUENCES} sequences of both layouts and both counts of parities as the model and the book have \
          them, {} accepted, {} plain reads of lost blocks refused, {} fetches and {} rebuilds withheld, none with one \
-         parity, {} refused for the arrangement of the list; each plain read as it goes with a fetch; each way of \
-         their work {least} times at least; seed {seed}",
+         parity, {} refused for the arrangement of the list; {} members put back, {} of them after their bytes had \
+         changed and were given back, and {} more with other bytes; each plain read as it goes with a fetch; each way \
+         of their work {least} times at least; seed {seed}",
         stand.calls,
-        sum(|counts| counts.accepted),
-        sum(|counts| counts.given[16]),
-        sum(|counts| counts.withheld[0]),
-        sum(|counts| counts.withheld[1]),
-        sum(|counts| counts.rearranged.iter().sum())
+        sum(|counts| counts.given.iter().map(|codes| codes[0]).sum()),
+        sum(|counts| counts.times(read(0, 0), 16)),
+        sum(|counts| counts.times(fetch(0, 0), 14)),
+        sum(|counts| counts.times(Call::Rebuild, 14)),
+        sum(|counts| counts.rearranged.iter().sum()),
+        sum(|counts| counts.times(Call::PutBack(0), 0)),
+        sum(|counts| counts.returned),
+        sum(|counts| counts.unlike)
     ))
 }

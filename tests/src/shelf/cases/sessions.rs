@@ -1,5 +1,5 @@
-//! Sessions of format, start, fail and new log with the lines that are due: those of the customer's session that they
-//! cover, and others worked out by hand. The model is not asked.
+//! Sessions of format, start, fail, put back and new log with the lines that are due: those of the customer's session
+//! that they cover, and others worked out by hand. The model is not asked.
 
 use crate::model::made_all;
 use crate::shelf::harness::calls::{Buffer, Call, Measures, Record, Shelf};
@@ -19,20 +19,33 @@ type Step = (Call, &'static str, &'static [usize]);
 
 /// On a shelf that holds anything: format and start of the customer's session, then what the text says of a shelf on
 /// which no block is listed.
-const FRESH: [Step; 22] = [
+const FRESH: [Step; 37] = [
     (Call::Start, "start 3 0 0 0 0", &[]),
+    (Call::PutBack(0), "putback 3 0 0 0 0", &[]),
     (Call::Format, "format 0 0 0 0 0", &[]),
     (Call::NewLog, "newlog 12 0 0 0 0", &[]),
+    (Call::PutBack(0), "putback 12 0 0 0 0", &[]),
+    (Call::PutBack(4), "putback 12 0 0 0 0", &[]),
+    (Call::PutBack(LOG), "putback 6 0 0 0 0", &[]),
+    (Call::PutBack(6), "putback 6 0 0 0 0", &[]),
+    (Call::PutBack(usize::MAX), "putback 6 0 0 0 0", &[]),
     (Call::Start, "start 0 1 0 0 0", &[]),
     (Call::Start, "start 7 1 0 0 0", &[]),
     (Call::Fail(6), "fail 6 1 0 0 0", &[]),
     (Call::Fail(LOG), "fail 0 0 0 0 0", &[LOG]),
     (Call::Fail(LOG), "fail 10 0 0 0 0", &[LOG]),
+    (Call::PutBack(LOG), "putback 6 0 0 0 0", &[LOG]),
+    (Call::PutBack(0), "putback 12 0 0 0 0", &[LOG]),
     (Call::Start, "start 9 0 0 0 0", &[LOG]),
     (Call::NewLog, "newlog 0 0 0 0 0", &[]),
     (Call::Start, "start 0 1 0 0 0", &[]),
     (Call::Fail(4), "fail 0 1 0 0 0", &[4]),
+    (Call::PutBack(4), "putback 0 1 0 0 0", &[]),
+    (Call::Fail(4), "fail 0 1 0 0 0", &[4]),
     (Call::Fail(LOG), "fail 0 0 0 0 0", &[4, LOG]),
+    (Call::PutBack(4), "putback 0 0 0 0 0", &[LOG]),
+    (Call::Fail(4), "fail 0 0 0 0 0", &[4, LOG]),
+    (Call::PutBack(LOG), "putback 6 0 0 0 0", &[4, LOG]),
     (Call::Start, "start 8 0 0 0 0", &[4, LOG]),
     (Call::Fail(4), "fail 10 0 0 0 0", &[4, LOG]),
     (Call::Fail(0), "fail 11 0 0 0 0", &[4, LOG]),
@@ -41,24 +54,31 @@ const FRESH: [Step; 22] = [
     (Call::NewLog, "newlog 12 0 0 0 0", &[4]),
     (Call::Fail(0), "fail 0 0 0 0 0", &[0, 4]),
     (Call::Start, "start 8 0 0 0 0", &[0, 4]),
+    (Call::PutBack(3), "putback 12 0 0 0 0", &[0, 4]),
+    (Call::PutBack(0), "putback 0 0 0 0 0", &[4]),
     (Call::Format, "format 0 0 0 0 0", &[]),
 ];
 
-/// After the customer's `write 1 1 7`: disks 0 and 1 fail as in that session.
-const LOGGED: [Step; 4] = [
+/// After the customer's `write 1 1 7`: disks 0 and 1 fail as in that session, and are put back.
+const LOGGED: [Step; 7] = [
     (Call::Fail(0), "fail 0 1 1 2 0", &[0]),
     (Call::Fail(1), "fail 0 1 1 2 0", &[0, 1]),
     (Call::Start, "start 7 1 1 2 0", &[0, 1]),
     (Call::Fail(LOG), "fail 11 1 1 2 0", &[0, 1]),
+    (Call::PutBack(0), "putback 0 1 1 2 0", &[1]),
+    (Call::PutBack(0), "putback 12 1 1 2 0", &[1]),
+    (Call::PutBack(1), "putback 0 1 1 2 0", &[]),
 ];
 
-/// The same where the log fails, as in K9.
-const WITHOUT_LOG: [Step; 5] = [
+/// The same where the log fails, as in K9. Disk 0 is put back, and the log is not.
+const WITHOUT_LOG: [Step; 7] = [
     (Call::NewLog, "newlog 12 1 1 2 0", &[]),
     (Call::Fail(LOG), "fail 0 2 1 2 0", &[LOG]),
     (Call::NewLog, "newlog 13 2 1 2 0", &[LOG]),
     (Call::Fail(0), "fail 0 2 1 2 0", &[0, LOG]),
     (Call::Start, "start 7 2 1 2 0", &[0, LOG]),
+    (Call::PutBack(LOG), "putback 6 2 1 2 0", &[0, LOG]),
+    (Call::PutBack(0), "putback 0 2 1 2 0", &[LOG]),
 ];
 
 /// The last line of the customer's session.

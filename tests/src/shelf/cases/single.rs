@@ -13,7 +13,7 @@ use crate::shelf::model::numbers::NONE as N;
 use crate::Outcome;
 
 /// K4's stripe without Q, with block 1 logged as 7: P is on member 3, the log is 4.
-const LOGGED: [Step; 3] = [
+pub const LOGGED: [Step; 3] = [
     (write(0, 3), &[1, 2, 3], [0, 0, 0, 0], &[], &[Array(&[1, 2, 3, 0])]),
     (Call::Start, &[], [0, 1, 0, 0], &[], &[]),
     (write(1, 1), &[7], [0, 1, 1, 2], &[], &[Array(&[1, 7, 3, 0]), Log(&[2, 7, 0, 0]), List(&[N, 0, 1, 0, 1, N])]),
@@ -155,7 +155,7 @@ const EIGHTEEN: [u8; 18] = [1, 2, 3, 4, 5, 6, 7, 8, 9, 10, 11, 12, 13, 14, 15, 1
 type Limit = ([usize; 2], usize, usize, &'static [usize], Call, usize);
 
 /// With d 2 and one parity: the log is 3, and one member may be failed.
-const OF_ONE: [Limit; 21] = [
+const OF_ONE: [Limit; 31] = [
     ([2, 1], 3, 0, &[], Call::Fail(2), 0),
     ([2, 1], 3, 0, &[], Call::Fail(3), 0),
     ([2, 1], 3, 0, &[], Call::Fail(4), 6),
@@ -177,10 +177,20 @@ const OF_ONE: [Limit; 21] = [
     ([2, 1], 4, 0, &[], Call::Start, 2),
     ([2, 1], 4, 0, &[], Call::Format, 2),
     ([2, 1], 4, 0, &[4], Call::Fail(0), 1),
+    ([2, 1], 3, 0, &[0], Call::PutBack(0), 0),
+    ([2, 1], 3, 1, &[2], Call::PutBack(2), 0),
+    ([2, 1], 3, 0, &[2], Call::PutBack(1), 12),
+    ([2, 1], 3, 0, &[], Call::PutBack(2), 12),
+    ([2, 1], 3, 0, &[], Call::PutBack(3), 6),
+    ([2, 1], 3, 0, &[3], Call::PutBack(3), 6),
+    ([2, 1], 3, 0, &[3], Call::PutBack(2), 12),
+    ([2, 1], 3, 0, &[0], Call::PutBack(usize::MAX), 6),
+    ([2, 1], 3, 0, &[0, 3], Call::PutBack(0), 1),
+    ([2, 1], 4, 0, &[0], Call::PutBack(3), 2),
 ];
 
 /// With d 2 and two.
-const OF_BOTH: [Limit; 15] = [
+const OF_BOTH: [Limit; 26] = [
     ([2, 2], 4, 0, &[], Call::Fail(3), 0),
     ([2, 2], 4, 0, &[], Call::Fail(4), 0),
     ([2, 2], 4, 0, &[], Call::Fail(5), 6),
@@ -196,10 +206,21 @@ const OF_BOTH: [Limit; 15] = [
     ([2, 2], 3, 0, &[], Call::Start, 2),
     ([2, 2], 3, 0, &[], Call::Format, 2),
     ([2, 2], 3, 0, &[3], Call::Fail(0), 2),
+    ([2, 2], 4, 0, &[0, 3], Call::PutBack(3), 0),
+    ([2, 2], 4, 0, &[3, 4], Call::PutBack(3), 0),
+    ([2, 2], 4, 1, &[2, 3], Call::PutBack(2), 0),
+    ([2, 2], 4, 0, &[0, 4], Call::PutBack(3), 12),
+    ([2, 2], 4, 0, &[], Call::PutBack(3), 12),
+    ([2, 2], 4, 0, &[], Call::PutBack(4), 6),
+    ([2, 2], 4, 0, &[0, 4], Call::PutBack(4), 6),
+    ([2, 2], 4, 0, &[0, 4], Call::PutBack(5), 6),
+    ([2, 2], 4, 0, &[0], Call::PutBack(usize::MAX), 6),
+    ([2, 2], 4, 0, &[0, 1, 4], Call::PutBack(4), 1),
+    ([2, 2], 3, 0, &[3], Call::PutBack(4), 2),
 ];
 
 /// With d 16: the log is 17 or 18, the last flag.
-const OF_SIXTEEN: [Limit; 18] = [
+const OF_SIXTEEN: [Limit; 27] = [
     ([16, 1], 17, 0, &[], Call::Fail(16), 0),
     ([16, 1], 17, 0, &[], Call::Fail(17), 0),
     ([16, 1], 17, 0, &[], Call::Fail(18), 6),
@@ -218,10 +239,19 @@ const OF_SIXTEEN: [Limit; 18] = [
     ([16, 2], 18, 0, &[17], Call::Start, 8),
     ([16, 2], 18, 0, &[0, 1, 18], Call::Start, 1),
     ([16, 2], 17, 0, &[17], Call::Start, 2),
+    ([16, 1], 17, 0, &[16], Call::PutBack(16), 0),
+    ([16, 1], 17, 0, &[17], Call::PutBack(17), 6),
+    ([16, 1], 17, 0, &[16], Call::PutBack(18), 6),
+    ([16, 1], 17, 0, &[16], Call::PutBack(19), 6),
+    ([16, 2], 18, 0, &[17, 18], Call::PutBack(17), 0),
+    ([16, 2], 18, 0, &[17, 18], Call::PutBack(18), 6),
+    ([16, 2], 18, 0, &[17], Call::PutBack(18), 6),
+    ([16, 2], 18, 0, &[17, 18], Call::PutBack(16), 12),
+    ([16, 2], 18, 0, &[17], Call::PutBack(19), 6),
 ];
 
 /// Counts that are neither, with an array as they would have it; the last one and d make 1 in 64 bits.
-const OF_NEITHER: [Limit; 10] = [
+const OF_NEITHER: [Limit; 12] = [
     ([2, 0], 2, 0, &[], Call::Start, 1),
     ([2, 0], 2, 0, &[], Call::Format, 1),
     ([2, 3], 5, 0, &[], Call::Start, 1),
@@ -232,9 +262,12 @@ const OF_NEITHER: [Limit; 10] = [
     ([2, usize::MAX], 1, 0, &[], Call::Start, 1),
     ([2, usize::MAX], 1, 0, &[], Call::Format, 1),
     ([16, usize::MAX], 15, 0, &[], Call::Fail(0), 1),
+    ([16, usize::MAX], 15, 0, &[0], Call::PutBack(0), 1),
+    ([2, 3], 5, 0, &[4], Call::PutBack(4), 1),
 ];
 
-/// Makes a call at a limit in this layout; fails unless it gets its number and, accepted, sets the member's flag.
+/// Makes a call at a limit in this layout; fails unless it gets its number and, accepted, sets or clears the member's
+/// flag.
 fn limit(&(count, members, mode, failed, call, code): &Limit, layout: usize, stand: &mut Stand) -> Result<(), String> {
     let [d, parities] = count;
     let measures = Measures { d, s: 1, b: 1, l: 1, h: 1, e: 1, layout, parities };
@@ -243,8 +276,10 @@ fn limit(&(count, members, mode, failed, call, code): &Limit, layout: usize, sta
     let [array, log, list, data] = [vec![7; members], vec![8], vec![255; 20], vec![]].map(Buffer::of);
     let shelf = Shelf { record, array, log, list, data };
     let mut due = Due::nothing(call, &shelf, code);
-    if let (Call::Fail(member), 0) = (call, code) {
-        due.record.failed[member] = 1;
+    match (call, code) {
+        (Call::Fail(member), 0) => due.record.failed[member] = 1,
+        (Call::PutBack(member), 0) => due.record.failed[member] = 0,
+        _ => {}
     }
     stand.expect(call, &shelf, &due)
 }
@@ -274,7 +309,7 @@ fn scripts(stand: &mut Stand) -> Result<(), String> {
 
 /// A shelf of these measures in mode 1 with every second stripe stale: all blocks were written, then one in each of
 /// those.
-fn stale(m: Measures, stand: &mut Stand) -> Result<Pair, String> {
+pub fn stale(m: Measures, stand: &mut Stand) -> Result<Pair, String> {
     let mut pair = Pair::fresh(m, 99, stand)?;
     let blocks = |count: usize, from: usize| Buffer::of((0..count * m.b).map(|at| (at * 7 + from) as u8).collect());
     pair.step(write(0, m.d * m.s), blocks(m.d * m.s, 3), stand)?;
@@ -289,7 +324,7 @@ fn stale(m: Measures, stand: &mut Stand) -> Result<Pair, String> {
 }
 
 /// Fetches each block alone, which is to get 0 or be withheld. Hands back how many were withheld.
-fn fetched(pair: &mut Pair, stand: &mut Stand) -> Result<usize, String> {
+pub fn fetched(pair: &mut Pair, stand: &mut Stand) -> Result<usize, String> {
     let (m, mut withheld) = (pair.shelf.record.measures, 0);
     for address in 0..m.d * m.s {
         match pair.step(fetch(address, 1), Buffer::of(vec![231; m.b]), stand)? {

@@ -1,6 +1,6 @@
 //! Complete walks of tiny shelves: every list of one or two slots and two places over the words that matter, with every
 //! call on those that are sound, in both layouts and with both counts of parities; and every choice of these, d, mode,
-//! failed members and call, with every member to fail.
+//! failed members and call, with every member to fail and to put back.
 
 use crate::random::Random;
 use crate::shelf::harness::calls::{fetch, read, write, Buffer, Call, Measures, Record, Shelf};
@@ -57,8 +57,17 @@ fn next_list(digits: &mut [usize], choices: &[&[u32]], list: &mut [u8]) -> bool 
 
 /// The calls that test the list. One of them is made on every list, and all on those that have one fault only; full
 /// resync, which takes any list, is made on every one too.
-const TESTING: [Call; 8] =
-    [Call::Start, Call::Fail(1), Call::NewLog, write(0, 1), read(1, 1), fetch(1, 1), Call::Resync, Call::Rebuild];
+const TESTING: [Call; 9] = [
+    Call::Start,
+    Call::Fail(1),
+    Call::PutBack(1),
+    Call::NewLog,
+    write(0, 1),
+    read(1, 1),
+    fetch(1, 1),
+    Call::Resync,
+    Call::Rebuild,
+];
 
 /// The calls that are made on every sound list, with each set of failed members.
 const ON_SOUND: [Call; 11] = [
@@ -165,12 +174,15 @@ fn flag_sets() -> Vec<[u8; 19]> {
     sets
 }
 
+/// The calls that name a member.
+const NAMING: [fn(usize) -> Call; 2] = [Call::Fail, Call::PutBack];
+
 /// The members that are named beside 0 to 20: numbers that 8, 16 or 32 bits take for one of those, and the greatest
 /// ones.
 const FAR: [usize; 6] = [256, 65536 + 3, 1 << 32, (1 << 63) + 1, usize::MAX - 2, usize::MAX];
 
 /// Walks every layout, count of parities, d, set of flags, mode with and without a listed block, and call, with every
-/// member to fail. The sets go up to one flag more than may be set.
+/// member to fail and to put back. The sets go up to one flag more than may be set.
 fn all_members(stand: &mut Stand) -> Result<(), String> {
     let word = |words: &[u32]| words.iter().flat_map(|word| word.to_le_bytes()).collect::<Vec<u8>>();
     let lists = [word(&[NONE; 5]), word(&[0, 1, 0, NONE, NONE])];
@@ -199,14 +211,12 @@ fn every_call(shelf: &Shelf, stand: &mut Stand) -> Result<(), String> {
     for call in [0, last].into_iter().flat_map(|address| [read(address, 1), fetch(address, 1), write(address, 1)]) {
         stand.as_model(call, shelf)?;
     }
-    if started == 1 {
-        stand.as_model(Call::Fail(shelf.record.mode), shelf)?;
-        return stand.as_model(Call::Fail(shelf.record.measures.log()), shelf).map(|_| ());
-    }
-    for member in (0..=20).chain(FAR) {
-        let found = stand.as_model(Call::Fail(member), shelf)?;
-        if found.code() == 0 && outcome(Call::Fail(member), shelf, 0).0.record == shelf.record {
-            return Err(format!("the model does not note that member {member} of a shelf of {shelf} failed"));
+    let some = [shelf.record.mode, shelf.record.measures.log()];
+    let members = if started == 1 { some.to_vec() } else { (0..=20).chain(FAR).collect() };
+    for call in members.into_iter().flat_map(|member| NAMING.map(|call| call(member))) {
+        let found = stand.as_model(call, shelf)?;
+        if found.code() == 0 && outcome(call, shelf, 0).0.record == shelf.record {
+            return Err(format!("the model does not note {call:?} on a shelf of {shelf}"));
         }
     }
     Ok(())
@@ -222,7 +232,7 @@ pub fn group(seed: u64) -> Outcome {
     all_members(&mut stand)?;
     Ok(format!(
         "{lists} calls on all lists of two places, {} of which are sound; {} on every layout, count of parities, d, \
-         mode, set of failed members and call, with every member to fail; seed {seed}",
+         mode, set of failed members and call, with every member to fail and to put back; seed {seed}",
         2 * SOUND,
         stand.calls - lists
     ))

@@ -5,6 +5,7 @@ use std::collections::{HashMap, HashSet, VecDeque};
 
 use crate::shelf::harness::calls::{fetch, read, write, Buffer, Call, Measures, Record};
 use crate::shelf::harness::pair::Pair;
+use crate::shelf::harness::reports::Reports;
 use crate::shelf::harness::stand::Stand;
 use crate::shelf::model::book::Book;
 use crate::shelf::model::layout::{Entries, List};
@@ -39,15 +40,16 @@ const MEASURES: [[usize; 8]; 20] = [
 /// The most shelves of the same measures on which calls are made.
 const MOST: usize = 1_800;
 
-/// What tells two shelves apart: the record's mode, next and flags, array, log, list, the book's blocks.
-type Key = ([usize; 2], [u8; 19], Vec<u8>, Vec<u8>, Vec<u8>, Vec<u8>);
+/// What tells two shelves apart: the record's mode, next and flags, array, log, list, the book's blocks, and what was
+/// reported.
+type Key = ([usize; 2], [u8; 19], Vec<u8>, Vec<u8>, Vec<u8>, Vec<u8>, Reports);
 
-/// The calls that are made: each member fails; each block alone, each stripe and all blocks are written, and read by both
-/// reads.
+/// The calls that are made: each member fails and is put back; each block alone, each stripe and all blocks are
+/// written, and read by both reads.
 fn calls(m: Measures) -> Vec<Call> {
     let blocks = m.d * m.s;
     let mut calls = vec![Call::Start, Call::NewLog, Call::Resync, Call::Rebuild, Call::FullResync];
-    calls.extend((0..=m.log()).map(Call::Fail));
+    calls.extend((0..=m.log()).flat_map(|member| [Call::Fail(member), Call::PutBack(member)]));
     let single = (0..blocks).map(|address| (address, 1));
     let ranges = single.chain((0..m.s).map(|stripe| (stripe * m.d, m.d))).chain([(0, blocks - 1), (1, blocks - 1)]);
     for (address, count) in ranges.chain((m.s > 1).then_some((0, blocks))) {
@@ -78,7 +80,7 @@ fn key(pair: &Pair) -> Key {
     let Record { measures: m, mode, next, failed, .. } = pair.shelf.record;
     let [array, log, list] = [&pair.shelf.array, &pair.shelf.log, &pair.shelf.list].map(|buffer| buffer.bytes.clone());
     let blocks = (0..m.d * m.s).map(|address| pair.book.block(address)[0]).collect();
-    ([mode, next], failed, array, log, list, blocks)
+    ([mode, next], failed, array, log, list, blocks, pair.reports().clone())
 }
 
 /// The list in bytes for what was listed so far, and how often calls led to what another one had led to.
@@ -143,6 +145,7 @@ fn walk([d, s, b, l, h, e, layout, parities]: [usize; 8], stand: &mut Stand) -> 
                 continue;
             }
             next.holds()?;
+            next.takes_back(call, &pair.shelf.record, stand)?;
             lists.take(&pair, &next)?;
             next.spoil();
             if reached.len() < MOST && reached.insert(key(&next)) {

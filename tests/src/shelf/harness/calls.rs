@@ -93,19 +93,22 @@ mod archive {
         pub fn shelf_start(r: Record, a: From, an: usize, g: From, gn: usize, i: From, n: usize) -> Answer;
         pub fn shelf_new_log(r: Record, a: From, an: usize, g: From, gn: usize, i: From, n: usize) -> Answer;
         pub fn shelf_fail(r: Record, m: usize, a: From, an: usize, g: From, gn: usize, i: From, n: usize) -> Answer;
+        pub fn shelf_put_back(r: Record, m: usize, a: From, an: usize, g: From, gn: usize, i: From, n: usize)
+            -> Answer;
         pub fn shelf_resync(r: Record, a: Into, an: usize, g: From, gn: usize, i: Into, n: usize) -> Resynced;
         pub fn shelf_rebuild(r: Record, a: Into, an: usize, g: From, gn: usize, i: Into, n: usize) -> Answer;
         pub fn shelf_full_resync(r: Record, a: Into, an: usize, g: From, gn: usize, i: Into, n: usize) -> Answer;
     }
 }
 
-/// A call on a shelf: the member that fail names, the address and the count of blocks of a write, of a plain read and of
-/// a recovering one, which is fetch.
+/// A call on a shelf: the member that fail or put back names, the address and the count of blocks of a write, of a
+/// plain read and of a recovering one, which is fetch.
 #[derive(Clone, Copy, Debug, PartialEq)]
 pub enum Call {
     Format,
     Start,
     Fail(usize),
+    PutBack(usize),
     NewLog,
     Write { address: usize, count: usize },
     Read { address: usize, count: usize },
@@ -137,7 +140,8 @@ pub type Lent = [(*mut u8, usize); 4];
 pub type Answered = (usize, Option<usize>, Record);
 
 impl Call {
-    /// The call that has this name in the customer's sessions, with the first two values there; none if none has it.
+    /// The call that has this name in the customer's sessions, with the first two values there; none if none has it,
+    /// and put back has none.
     pub fn named(name: &str, first: usize, second: usize) -> Option<Call> {
         Some(match name {
             "start" => Call::Start,
@@ -178,6 +182,7 @@ impl Call {
             Call::Format => archive::shelf_format(r, a, an, g, gn, i, n),
             Call::Start => archive::shelf_start(r, a, an, g, gn, i, n),
             Call::Fail(member) => archive::shelf_fail(r, member, a, an, g, gn, i, n),
+            Call::PutBack(member) => archive::shelf_put_back(r, member, a, an, g, gn, i, n),
             Call::NewLog => archive::shelf_new_log(r, a, an, g, gn, i, n),
             Call::Write { address, count } => {
                 archive::shelf_write(r, address, count, data, data_len, a, an, g, gn, i, n)
@@ -227,15 +232,30 @@ pub struct Shelf {
     pub data: Buffer,
 }
 
+impl Shelf {
+    /// The bytes of a member, which the buffers have whole: a part of the array, or the log.
+    pub fn member(&mut self, member: usize) -> &mut [u8] {
+        let m = self.record.measures;
+        match member < m.log() {
+            true => &mut self.array.bytes[member * m.s * m.b..][..m.s * m.b],
+            false => &mut self.log.bytes,
+        }
+    }
+
+    /// The members that have failed.
+    pub fn failed(&self) -> Vec<usize> {
+        (0..19).filter(|&member| self.record.failed[member] != 0).collect()
+    }
+}
+
 impl fmt::Display for Shelf {
     /// Writes the shelf as a failure names it: the record, the lengths, and a short list whole.
     fn fmt(&self, out: &mut fmt::Formatter) -> fmt::Result {
-        let Record { measures, mode, next, listed, failed } = self.record;
+        let Record { measures, mode, next, listed, .. } = self.record;
         let Measures { d, s, b, l, h, e, layout, parities } = measures;
-        let members: Vec<usize> = (0..failed.len()).filter(|&member| failed[member] != 0).collect();
         write!(out, "d {d}, S {s}, B {b}, L {l}, H {h}, E {e}, layout {layout}, parities {parities}, ")?;
         write!(out, "mode {mode}, next {next}, listed {listed}, ")?;
-        write!(out, "failed {members:?}, array of {}, log of {}, ", self.array.told, self.log.told)?;
+        write!(out, "failed {:?}, array of {}, log of {}, ", self.failed(), self.array.told, self.log.told)?;
         write!(out, "data of {}, list of {} bytes", self.data.told, self.list.told)?;
         if self.list.bytes.len() > 400 {
             return Ok(());

@@ -7,6 +7,7 @@ pub mod lists;
 pub mod pair;
 pub mod reads;
 pub mod records;
+pub mod reports;
 pub mod requests;
 pub mod script;
 pub mod stand;

@@ -1,6 +1,7 @@
 //! Calls on a shelf with what is due given by hand. The model is not asked.
 
 use super::calls::{Buffer, Call, Measures, Record, Shelf};
+use super::reports::Reports;
 use super::stand::Stand;
 use crate::shelf::model::due::Due;
 use crate::shelf::model::numbers::{lengths, NONE};
@@ -31,6 +32,7 @@ fn flags(members: &[usize]) -> [u8; 19] {
 pub struct Script {
     shelf: Shelf,
     byte: u8,
+    reports: Reports,
 }
 
 impl Script {
@@ -48,7 +50,8 @@ impl Script {
     pub fn of(m: Measures, stand: &mut Stand) -> Result<Script, String> {
         let [array, log, list] = lengths(m).map(|length| Buffer::of(vec![77; length as usize]));
         let record = Record { measures: m, mode: 9, next: 9, listed: 9, failed: [1; 19] };
-        let mut script = Script { shelf: Shelf { record, array, log, list, data: Buffer::empty() }, byte: 77 };
+        let shelf = Shelf { record, array, log, list, data: Buffer::empty() };
+        let mut script = Script { shelf, byte: 77, reports: Reports::default() };
         let mut due = Due::nothing(Call::Format, &script.shelf, 0);
         due.record = Record { measures: m, mode: 0, next: 0, listed: 0, failed: [0; 19] };
         due.array = Some(vec![0; script.shelf.array.told]);
@@ -71,10 +74,12 @@ impl Script {
         bytes
     }
 
-    /// Makes the steps one after another, the bytes of failed members changing before each.
+    /// Makes the steps one after another, the bytes of failed members changing before each; a member that is put back
+    /// holds what it held when it was reported.
     pub fn play(&mut self, steps: &[Step], stand: &mut Stand) -> Result<(), String> {
         for (number, step) in steps.iter().enumerate() {
             self.spoil();
+            self.reports.give(step.0, &mut self.shelf);
             self.step(step, stand).map_err(|fault| format!("step {}: {fault}", number + 1))?;
         }
         Ok(())
@@ -82,13 +87,9 @@ impl Script {
 
     /// Overwrites the failed members.
     fn spoil(&mut self) {
-        let m = self.shelf.record.measures;
         self.byte = self.byte.wrapping_add(59);
-        for member in (0..m.log()).filter(|&member| self.shelf.record.failed[member] != 0) {
-            self.shelf.array.bytes[member * m.s * m.b..][..m.s * m.b].fill(self.byte);
-        }
-        if self.shelf.record.failed[m.log()] != 0 {
-            self.shelf.log.bytes.fill(self.byte);
+        for member in self.shelf.failed() {
+            self.shelf.member(member).fill(self.byte);
         }
     }
 
@@ -109,6 +110,9 @@ impl Script {
         }
         stand.expect(call, &self.shelf, &due)?;
         stand.hand_on(&mut self.shelf);
+        if code == 0 {
+            self.reports.take(call, &mut self.shelf);
+        }
         Ok(())
     }
 }

@@ -5,7 +5,7 @@ use super::calls::{Call, Measures, Shelf};
 use crate::shelf::model::numbers::{Fault, Findings, OF_LENGTHS, OF_LIST, OF_MEASURES, OF_RECORD};
 
 /// How many calls there are, and numbers from 0 to the last one that a call answers.
-pub const CALLS: usize = 10;
+pub const CALLS: usize = 11;
 pub const CODES: usize = 17;
 
 /// The calls by name, with the numbers that each can answer beside 0.
@@ -13,6 +13,7 @@ const NUMBERS: [(&str, &[usize]); CALLS] = [
     ("format", &[1, 2]),
     ("start", &[1, 2, 3, 7, 8, 9]),
     ("fail", &[1, 2, 3, 6, 10, 11]),
+    ("put back", &[1, 2, 3, 6, 12]),
     ("new log", &[1, 2, 3, 12, 13]),
     ("write", &[1, 2, 3, 4, 5, 8]),
     ("read", &[1, 2, 3, 4, 5, 16]),
@@ -76,13 +77,14 @@ pub fn index(call: Call) -> usize {
         Call::Format => 0,
         Call::Start => 1,
         Call::Fail(_) => 2,
-        Call::NewLog => 3,
-        Call::Write { .. } => 4,
-        Call::Read { .. } => 5,
-        Call::Fetch { .. } => 6,
-        Call::Resync => 7,
-        Call::Rebuild => 8,
-        Call::FullResync => 9,
+        Call::PutBack(_) => 3,
+        Call::NewLog => 4,
+        Call::Write { .. } => 5,
+        Call::Read { .. } => 6,
+        Call::Fetch { .. } => 7,
+        Call::Resync => 8,
+        Call::Rebuild => 9,
+        Call::FullResync => 10,
     }
 }
 

@@ -114,6 +114,9 @@ impl Book {
             Call::Fail(member) if self.members.contains(&member) => 10,
             Call::Fail(_) if self.members.len() == self.parities() => 11,
             Call::Fail(_) => 0,
+            Call::PutBack(member) if member >= self.log() => 6,
+            Call::PutBack(member) if !self.members.contains(&member) => 12,
+            Call::PutBack(_) => 0,
             Call::NewLog if !self.log_failed() => 12,
             Call::NewLog if !self.marks.is_empty() => 13,
             Call::NewLog => 0,
@@ -160,6 +163,9 @@ impl Book {
                 if member == log && self.mode == 1 {
                     self.mode = 2;
                 }
+            }
+            Call::PutBack(member) => {
+                self.members.remove(&member);
             }
             Call::NewLog => {
                 self.members.remove(&log);

@@ -21,6 +21,7 @@ pub fn conditions(call: Call, shelf: &Shelf, is_listed: &[bool]) -> u32 {
         Call::Fail(member) => {
             is(6, member > log) | is(10, failed(r, member)) | is(11, failures(r) >= r.measures.parities)
         }
+        Call::PutBack(member) => is(6, member >= log) | is(12, !failed(r, member)),
         Call::NewLog => is(12, !failed(r, log)) | is(13, r.listed > 0),
         Call::Write { address, count } => request(shelf, address, count) | is(8, array_failed),
         Call::Read { address, count } => request(shelf, address, count) | is(16, lost(r, address, count)),

@@ -19,6 +19,12 @@ macro_rules! events {
 }
 
 events! {
+    PutBackNormal,
+    PutBackAccelerating,
+    PutBackListed,
+    PutBackTransitional,
+    PutBackBesideFailed,
+    PutBackWithoutLog,
     WriteReadModify,
     WriteReconstruct,
     WriteAllListed,
@@ -80,7 +86,9 @@ const OF_ROTATING: [Event; 2] = [Event::RebuildDropsSome, Event::RebuildBothOfOn
 
 /// The ways that are there only with two parities: a block is worked back by Q, or a data block or the log is missing
 /// beside what else is. So with one parity nothing is withheld.
-const OF_TWO: [Event; 7] = [
+const OF_TWO: [Event; 9] = [
+    Event::PutBackBesideFailed,
+    Event::PutBackWithoutLog,
     Event::ReadLostAndWithheld,
     Event::FetchByQ,
     Event::FetchByBoth,
@@ -88,6 +96,16 @@ const OF_TWO: [Event; 7] = [
     Event::FetchWithheld,
     Event::RebuildWithoutLog,
     Event::RebuildWithheld,
+];
+
+/// The ways of put back, which is no call of the bench program.
+const OF_PUT_BACK: [Event; 6] = [
+    Event::PutBackNormal,
+    Event::PutBackAccelerating,
+    Event::PutBackListed,
+    Event::PutBackTransitional,
+    Event::PutBackBesideFailed,
+    Event::PutBackWithoutLog,
 ];
 
 /// Whether shelves of this layout and with so many parities have a way.
@@ -132,20 +150,30 @@ impl Seen {
     /// Fails unless each way was gone so many times in each layout and with each count of parities that have it, and
     /// never where they have not. Hands back the least count.
     pub fn complete(&self, at_least: usize) -> Result<usize, String> {
-        let rotating = self.least(1, 1, at_least)?.min(self.least(1, 2, at_least)?);
-        Ok(self.least(0, 1, at_least)?.min(self.fixed(at_least)?).min(rotating))
+        let mut least = usize::MAX;
+        for (layout, parities) in [(0, 1), (0, 2), (1, 1), (1, 2)] {
+            least = least.min(self.least(layout, parities, at_least, |_| true)?);
+        }
+        Ok(least)
     }
 
-    /// The same of two parities that are fixed alone.
-    pub fn fixed(&self, at_least: usize) -> Result<usize, String> {
-        self.least(0, 2, at_least)
+    /// The same of the bench program, which has two parities that are fixed, and no put back.
+    pub fn of_bench(&self, at_least: usize) -> Result<usize, String> {
+        self.least(0, 2, at_least, |event| !OF_PUT_BACK.contains(&event))
     }
 
-    /// The same of one layout and one count of parities.
-    fn least(&self, layout: usize, parities: usize, at_least: usize) -> Result<usize, String> {
+    /// The same of one layout and one count of parities, and of the ways that there may be.
+    fn least(
+        &self,
+        layout: usize,
+        parities: usize,
+        at_least: usize,
+        may_be: impl Fn(Event) -> bool,
+    ) -> Result<usize, String> {
         let mut least = usize::MAX;
         for &event in ALL {
-            let (count, is_there) = (self.0[layout][parities - 1][event as usize], is_there(event, layout, parities));
+            let count = self.0[layout][parities - 1][event as usize];
+            let is_there = may_be(event) && is_there(event, layout, parities);
             if count < at_least && is_there || count > 0 && !is_there {
                 let due = if is_there { at_least } else { 0 };
                 let of = format!("layout {layout} and parities {parities}");

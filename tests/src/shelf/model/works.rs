@@ -25,6 +25,7 @@ pub fn outcome(call: Call, shelf: &Shelf, code: usize) -> (Due, Events) {
         Call::Format => format(shelf, &mut due),
         Call::Start => due.record.mode = 1,
         Call::Fail(member) => due.record = failed(shelf.record, member),
+        Call::PutBack(member) => put_back(shelf, member, &mut due, &mut events),
         Call::NewLog => due.record.failed[shelf.record.measures.log()] = 0,
         Call::Read { address, count } => due.data = Some(read(shelf, address..address + count, &mut events)),
         Call::Fetch { address, count } => due.data = Some(fetched(shelf, address..address + count, &mut events)),
@@ -54,6 +55,18 @@ fn failed(given: Record, member: usize) -> Record {
         after.mode = if given.listed > 0 { 2 } else { 0 };
     }
     after
+}
+
+/// The member's flag clears, and nothing else changes.
+fn put_back(shelf: &Shelf, member: usize, due: &mut Due, events: &mut Events) {
+    let (given, log) = (&shelf.record, shelf.record.measures.log());
+    due.record.failed[member] = 0;
+    events.add(Event::PutBackNormal, given.mode == 0);
+    events.add(Event::PutBackAccelerating, given.mode == 1 && given.listed == 0);
+    events.add(Event::PutBackListed, given.mode == 1 && given.listed > 0);
+    events.add(Event::PutBackTransitional, given.mode == 2);
+    events.add(Event::PutBackBesideFailed, due.record.failed[..log].contains(&1));
+    events.add(Event::PutBackWithoutLog, given.failed[log] != 0);
 }
 
 /// The blocks as they stand in the array: all are on sound members.

@@ -44,21 +44,27 @@ fail-rows-requires c κs = sized (passed (c .before .before .before) .range)
 enum-known-request-2 : tie.Need-enum-known-request-2
 enum-known-request-2 c = search needs
 
-write-rows-requires : tie.Need-write-rows-requires
-write-rows-requires c κs = passed (c .before .before .before) .range
+put-back-rows-requires : tie.Need-put-back-rows-requires
+put-back-rows-requires c κs = sized (passed (c .before .before .before) .range)
 
 enum-known-request-3 : tie.Need-enum-known-request-3
 enum-known-request-3 c = search needs
 
-read-rows-requires : tie.Need-read-rows-requires
-read-rows-requires c κs = passed (c .before .before .before) .range
+write-rows-requires : tie.Need-write-rows-requires
+write-rows-requires c κs = passed (c .before .before .before) .range
 
 enum-known-request-4 : tie.Need-enum-known-request-4
 enum-known-request-4 c = search needs
 
+read-rows-requires : tie.Need-read-rows-requires
+read-rows-requires c κs = passed (c .before .before .before) .range
+
+enum-known-request-5 : tie.Need-enum-known-request-5
+enum-known-request-5 c = search needs
+
 fetch-rows-requires : tie.Need-fetch-rows-requires
 unfolding triesList
-fetch-rows-requires c κs = list-ready _ _ _ _ (passed (c .before .before .before) .listing _ (c .before .request4 .given .1) refl)
+fetch-rows-requires c κs = list-ready _ _ _ _ (passed (c .before .before .before) .listing _ (c .before .request5 .given .1) refl)
 
 enum-told-2 : tie.Need-enum-told-2
 enum-told-2 c = search needs
@@ -96,30 +102,35 @@ returns-3 c = passed (c .before .before .before .before) .number _ (c .before .b
 returns-4 : tie.Need-returns-4
 unfolding codeOf
 returns-4 c =
-    let given = c .before .before .request2 .given in
-    passed (c .before .before .before .before) .number _ (given .1) (c .write-rows .result) (rw (length-replicate {A = ℕ} (given .0 .1 .1 .0) 0) (c .write-rows .ensures))
+    passed (c .before .before .before .before) .number _ (c .before .before .request2 .given .1) (c .put-back-rows .result) (c .put-back-rows .ensures)
 
 returns-5 : tie.Need-returns-5
 unfolding codeOf
-returns-5 c = passed (c .before .before .before .before) .number _ (c .before .before .request3 .given .1) (c .read-rows .result) (c .read-rows .ensures)
+returns-5 c =
+    let given = c .before .before .request3 .given in
+    passed (c .before .before .before .before) .number _ (given .1) (c .write-rows .result) (rw (length-replicate {A = ℕ} (given .0 .1 .1 .0) 0) (c .write-rows .ensures))
 
 returns-6 : tie.Need-returns-6
-returns-6 c = passed (c .before .before .before .before) .number _ (c .before .before .request4 .given .1) (c .fetch-rows .result) (c .fetch-rows .ensures)
+unfolding codeOf
+returns-6 c = passed (c .before .before .before .before) .number _ (c .before .before .request4 .given .1) (c .read-rows .result) (c .read-rows .ensures)
 
 returns-7 : tie.Need-returns-7
-unfolding codeOf
-returns-7 c = passed (c .before .before .before) .number _ (c .before .enum-told2 .given .1) (c .resync-rows .result) (c .resync-rows .ensures)
+returns-7 c = passed (c .before .before .before .before) .number _ (c .before .before .request5 .given .1) (c .fetch-rows .result) (c .fetch-rows .ensures)
 
 returns-8 : tie.Need-returns-8
-returns-8 c = passed (c .before .before .before) .number _ (c .before .enum-told3 .given .1) (c .rebuild-rows .result) (c .rebuild-rows .ensures)
+unfolding codeOf
+returns-8 c = passed (c .before .before .before) .number _ (c .before .enum-told2 .given .1) (c .resync-rows .result) (c .resync-rows .ensures)
 
 returns-9 : tie.Need-returns-9
-unfolding triesList
-returns-9 c = passed (c .before .before .before) .number _ (c .before .enum-told4 .given .1) (c .new-log-rows .result) (c .new-log-rows .ensures ∙ new-log-is _ _ _ _ (passed (c .before .before .before) .listing _ (c .before .enum-told4 .given .1) refl))
+returns-9 c = passed (c .before .before .before) .number _ (c .before .enum-told3 .given .1) (c .rebuild-rows .result) (c .rebuild-rows .ensures)
 
 returns-10 : tie.Need-returns-10
+unfolding triesList
+returns-10 c = passed (c .before .before .before) .number _ (c .before .enum-told4 .given .1) (c .new-log-rows .result) (c .new-log-rows .ensures ∙ new-log-is _ _ _ _ (passed (c .before .before .before) .listing _ (c .before .enum-told4 .given .1) refl))
+
+returns-11 : tie.Need-returns-11
 unfolding codeOf
-returns-10 c = passed (c .before .before .before) .number _ (c .before .enum-told5 .given .1) (c .array-row .result) (c .array-row .ensures)
+returns-11 c = passed (c .before .before .before) .number _ (c .before .enum-told5 .given .1) (c .array-row .result) (c .array-row .ensures)
 
 pub number-of-spec : {M : Type 1} → statement M
 number-of-spec =
@@ -133,10 +144,12 @@ number-of-spec =
     enum-known-request
     fail-rows-requires
     enum-known-request-2
-    write-rows-requires
+    put-back-rows-requires
     enum-known-request-3
-    read-rows-requires
+    write-rows-requires
     enum-known-request-4
+    read-rows-requires
+    enum-known-request-5
     fetch-rows-requires
     enum-told-2
     resync-rows-requires
@@ -154,4 +167,5 @@ number-of-spec =
     returns-7
     returns-8
     returns-9
-    returns-10)
+    returns-10
+    returns-11)

@@ -9,23 +9,24 @@ use borrow.Author.Needs.{needs}
 use Rattle.shelf.specs.Lent.{triesList}
 use Rattle.shelf.specs.below.Records.{callOf}
 use Rattle.shelf.specs.declared.status.Request.{Request}
-use Rattle.shelf.specs.declared.status.Request.the-variants.{Start, Fail, Write, Read, Fetch, Resync, Rebuild, NewLog, FullResync}
+use Rattle.shelf.specs.declared.status.Request.the-variants.{Start, Fail, PutBack, Write, Read, Fetch, Resync, Rebuild, NewLog, FullResync}
 use Rattle.shelf.proofs.status.Request.{the-type}
 use Rattle.shelf.proofs.status.tries_list.Statement.{statement}
 use Rattle.shelf.proofs.status.tries_list.Tie as tie
 
 -- those of the second arm, by their tags
-tried : (q : Request) → OneOf (0 ∷ 1 ∷ 2 ∷ 3 ∷ 4 ∷ 5 ∷ 6 ∷ 7 ∷ []) (tagOf the-type q) → true ≡ triesList (callOf q)
+tried : (q : Request) → OneOf (0 ∷ 1 ∷ 2 ∷ 3 ∷ 4 ∷ 5 ∷ 6 ∷ 7 ∷ 8 ∷ []) (tagOf the-type q) → true ≡ triesList (callOf q)
 unfolding triesList
 tried Start h = refl
 tried (Fail j) h = refl
+tried (PutBack j) h = refl
 tried (Write a n len) h = refl
 tried (Read a n len) h = refl
 tried (Fetch a n len) h = refl
 tried Resync h = refl
 tried Rebuild h = refl
 tried NewLog h = refl
-tried FullResync h = absurd (miss (0 ∷ 1 ∷ 2 ∷ 3 ∷ 4 ∷ 5 ∷ 6 ∷ 7 ∷ []) 8 tt h)
+tried FullResync h = absurd (miss (0 ∷ 1 ∷ 2 ∷ 3 ∷ 4 ∷ 5 ∷ 6 ∷ 7 ∷ 8 ∷ []) 9 tt h)
 
 enum-told : tie.Need-enum-told
 enum-told c = search needs
