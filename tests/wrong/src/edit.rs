@@ -44,6 +44,11 @@ impl Edit {
         self.pairs.iter().any(|[file, ..]| file.starts_with("src/"))
     }
 
+    /// Whether the edit changes the program, and no definition.
+    fn changes_code_alone(&self) -> bool {
+        self.pairs.iter().all(|[file, ..]| file.starts_with("src/"))
+    }
+
     /// Applies the edit to a crate's folder, and hands back the texts that were there; where it does not fit, nothing is changed.
     pub fn apply(&self, folder: &Path) -> Result<Texts, String> {
         let (mut before, mut after) = (Texts::new(), Texts::new());
@@ -66,6 +71,41 @@ impl Edit {
         }
         write(&after).map(|()| before)
     }
+}
+
+/// The most edits that are tried together.
+const TOGETHER: usize = 8;
+
+/// Puts edits of one crate together in batches. Those of a batch change the program alone, each at a place of its own, whose proof
+/// stands in a file; which places are so is told.
+pub fn batches<'a>(edits: impl Iterator<Item = &'a Edit>, in_file: impl Fn(&Edit) -> bool) -> Vec<Vec<&'a Edit>> {
+    let mut batches: Vec<Vec<&Edit>> = Vec::new();
+    for edit in edits {
+        let joins = |edit: &Edit| edit.changes_code_alone() && in_file(edit);
+        let takes = |batch: &&mut Vec<&Edit>| {
+            let fits = |other: &&Edit| other.at != edit.at && joins(other);
+            batch.len() < TOGETHER && joins(edit) && batch.iter().all(fits)
+        };
+        match batches.iter_mut().find(takes) {
+            Some(batch) => batch.push(edit),
+            None => batches.push(vec![edit]),
+        }
+    }
+    batches
+}
+
+/// Applies edits one after another, and hands back the texts that were there; where one does not fit, nothing is changed.
+pub fn apply_all(edits: &[&Edit], folder: &Path) -> Result<Texts, String> {
+    let mut before = Texts::new();
+    for edit in edits {
+        match edit.apply(folder) {
+            Ok(texts) => texts.into_iter().for_each(|(path, text)| {
+                before.entry(path).or_insert(text);
+            }),
+            Err(reason) => return write(&before).and(Err(reason)),
+        }
+    }
+    Ok(before)
 }
 
 /// Writes texts to their files.

@@ -17,7 +17,7 @@
 //! every error before that is a consequence.
 
 /// What is to be said of a wrong program.
-#[derive(Debug, PartialEq)]
+#[derive(Clone, Debug, PartialEq)]
 pub enum Verdict {
     /// The prover refuses it where it must; the start of the first error.
     Refused(String),
@@ -25,6 +25,12 @@ pub enum Verdict {
     Accepted,
     /// The edit does not do what it is for, and why.
     Fault(String),
+}
+
+/// What must refuse an edit: a function or a file of laws, and the file that proves it, if it has one.
+pub struct Place<'a> {
+    pub at: &'a str,
+    pub proof: Option<String>,
 }
 
 /// Words of an error that say that a proof no longer fits the code.
@@ -39,8 +45,25 @@ pub fn logic(log: &str) -> Option<&str> {
     log.lines().rev().find_map(|line| line.strip_prefix("logic="))
 }
 
-/// Judges a log: of which crate, the place named, and the file that proves it, if it has one.
-pub fn judge(log: &str, crate_name: &str, at: &str, proof: Option<&str>) -> Verdict {
+/// What a log of several edits tried together has to say of one of them: all but the errors at the others' places, and but the
+/// errors elsewhere that only follow from another. Each edit changes a function of its own, whose proof stands in a file and
+/// cites promises of other functions and not their code; so what is left is what a log of this edit alone would have.
+pub fn of_place(log: &str, crate_name: &str, own: &Place, all: &[Place]) -> String {
+    let is_at = |error: &str, place: &Place| {
+        let first = error.lines().next().unwrap_or_default();
+        place.proof.as_ref().is_some_and(|file| first.contains(&format!("/crates/{crate_name}/{file}:")))
+    };
+    let is_others = |error: &str| all.iter().any(|place| place.at != own.at && is_at(error, place));
+    let follows = |error: &str| all.len() > 1 && error.contains(CONSEQUENCE) && !is_at(error, own);
+    let found = errors(log);
+    let errors = found.iter().map(String::as_str).filter(|error| !is_others(error) && !follows(error));
+    let rest = log.lines().filter(|line| line.starts_with("fn ") || line.starts_with("logic="));
+    errors.chain(rest).flat_map(|text| [text, "\n"]).collect()
+}
+
+/// Judges a log: of which crate, and the place named.
+pub fn judge(log: &str, crate_name: &str, place: &Place) -> Verdict {
+    let (at, proof) = (place.at, place.proof.as_deref());
     let Some(logic) = logic(log) else {
         return Verdict::Fault("it does not reach the prover".to_string());
     };
@@ -126,7 +149,12 @@ mod tests {
         let log = format!(
             "/w/crates/shelf/{FILE}:45:5: note: large solution\n/w/crates/shelf/{FILE}:45:5: error: {error}\n{logic}"
         );
-        judge(&log, "shelf", "status::read_rows", Some(FILE))
+        judge(&log, "shelf", &place("status::read_rows", Some(FILE)))
+    }
+
+    /// A place.
+    fn place<'a>(at: &'a str, file: Option<&str>) -> Place<'a> {
+        Place { at, proof: file.map(String::from) }
     }
 
     #[test]
@@ -161,7 +189,7 @@ mod tests {
         assert_eq!(judged("", PROVED), Verdict::Accepted);
         assert!(matches!(judged("", "error[unknown-name]"), Verdict::Fault(_)));
         let elsewhere = format!("/w/crates/shelf/proofs/x/Proof.antt:1:1: error: `returns`: two types differ\n{NOT}");
-        assert!(matches!(judge(&elsewhere, "shelf", "status::read_rows", Some(FILE)), Verdict::Fault(_)));
+        assert!(matches!(judge(&elsewhere, "shelf", &place("status::read_rows", Some(FILE))), Verdict::Fault(_)));
     }
 
     #[test]
@@ -169,8 +197,30 @@ mod tests {
         let after = format!("/w/crates/shelf/{FILE}:1:1: error: `read-rows-spec`: `close` was not admitted\n");
         let fails = "fn shelf::either: no proof: expected `either-spec` in F; `search` does not close `returns`\n";
         let log = format!("{after}{fails}{NOT}");
-        assert!(matches!(judge(&log, "shelf", "either", None), Verdict::Refused(_)));
-        assert!(matches!(judge(&log, "shelf", "both", None), Verdict::Fault(_)));
-        assert!(matches!(judge(&log, "shelf", "status::read_rows", Some(FILE)), Verdict::Fault(_)));
+        assert!(matches!(judge(&log, "shelf", &place("either", None)), Verdict::Refused(_)));
+        assert!(matches!(judge(&log, "shelf", &place("both", None)), Verdict::Fault(_)));
+        assert!(matches!(judge(&log, "shelf", &place("status::read_rows", Some(FILE))), Verdict::Fault(_)));
+    }
+
+    #[test]
+    fn edits_tried_together() {
+        let error =
+            |file: &str, words: &str| format!("/w/crates/shelf/{file}:9:1: error: `returns`: {words}\n  more\n");
+        let [x, caller, z] = ["proofs/x/Proof.antt", "proofs/y/Proof.antt", "proofs/z/Proof.antt"];
+        let all =
+            [place("x", Some(x)), place("status::read_rows", Some(FILE)), place("z", Some(z)), place("w", Some("w"))];
+        let log = [
+            &error(x, "two types differ"),
+            &error(caller, "`x-spec` was not admitted"),
+            &error(FILE, "two types differ"),
+            &error(z, "`x-spec` was not admitted"),
+            NOT,
+        ]
+        .concat();
+        let judged = |place: &Place, all: &[Place]| judge(&of_place(&log, "shelf", place, all), "shelf", place);
+        let refused = |place: &Place| matches!(judged(place, &all), Verdict::Refused(_));
+        assert_eq!(all.each_ref().map(refused), [true, true, false, false]);
+        assert!(matches!(judged(&all[0], &all[..1]), Verdict::Refused(_)));
+        assert!(matches!(judged(&all[1], &all[1..2]), Verdict::Fault(_)));
     }
 }

@@ -1,5 +1,6 @@
 //! The runner of wrong programs. Each file edits/CRATE/LABEL.edit makes a wrong program out of a crate; the prover must refuse it
-//! at the place that the file names. The edits are tried in copies of the crates, over rt's incremental folders, and undone.
+//! at the place that the file names. The edits are tried in copies of the crates, over rt's incremental folders, several of them
+//! together where each changes a function of its own, and undone.
 //! Words: the repository, a folder to work in, and texts of which an edit's CRATE/LABEL must have one; without any, all edits
 //! are tried. With `propose FILE` for those texts, edits of one source file are printed instead.
 
@@ -11,7 +12,7 @@ mod shape;
 
 use copy::Copy;
 use edit::Edit;
-use judge::Verdict;
+use judge::{Place, Verdict};
 use std::collections::BTreeMap;
 use std::path::Path;
 use std::process::ExitCode;
@@ -53,12 +54,15 @@ fn run(root: &Path, work: &Path, filters: &[String]) -> Result<bool, String> {
     }
     warm_up(&copies, &crates)?;
     let warm = began.elapsed().as_secs_f64();
-    let queue = crates.iter().flat_map(|name| edits.iter().filter(move |edit| edit.crate_name == *name));
-    let tried = each(queue, &copies, |copy, edit| {
-        let tried = try_edit(copy, edit, &codes);
-        (!filters.is_empty()).then(|| println!("{}", line(&tried)));
+    let in_file = |edit: &Edit| copies[0].proof_of(&edit.crate_name, &edit.at).is_some();
+    let queue =
+        crates.iter().flat_map(|name| edit::batches(edits.iter().filter(|edit| edit.crate_name == *name), in_file));
+    let tried = each(queue, &copies, |copy, batch| {
+        let tried = try_batch(copy, &batch, &codes);
+        (!filters.is_empty()).then(|| tried.iter().for_each(|tried| println!("{}", line(tried))));
         tried
     });
+    let tried = tried.concat();
     let ends = each(copies.iter(), &copies, |_, copy| crates.iter().try_for_each(|name| copy.must_be_proved(name)));
     let well = report(&crates, &tried, began.elapsed().as_secs_f64(), warm);
     ends.into_iter().collect::<Result<(), _>>().map(|()| well)
@@ -103,32 +107,59 @@ fn each<'a, T: Send, R: Send>(
     done.into_inner().unwrap()
 }
 
-/// Applies an edit, has rt check the crate, undoes the edit and judges.
-fn try_edit<'a>(copy: &Copy, edit: &'a Edit, codes: &BTreeMap<&str, String>) -> Tried<'a> {
-    let began = Instant::now();
-    let verdict = edit.apply(&copy.crate_folder(&edit.crate_name)).and_then(|before| {
-        let verdict = judge_applied(copy, edit, &codes[edit.crate_name.as_str()]);
-        edit::write(&before).and(verdict)
-    });
-    (edit, verdict.unwrap_or_else(Verdict::Fault), began.elapsed().as_secs_f64())
+/// Tries a batch of edits of one crate together. Those that are not refused then as they must be are tried once more, alone.
+fn try_batch<'a>(copy: &Copy, batch: &[&'a Edit], codes: &BTreeMap<&str, String>) -> Vec<Tried<'a>> {
+    let together = try_edits(copy, batch, codes);
+    let again = |tried: Tried<'a>| match tried.1 {
+        Verdict::Refused(_) => vec![tried],
+        _ => try_edits(copy, &[tried.0], codes),
+    };
+    if batch.len() == 1 {
+        together
+    } else {
+        together.into_iter().flat_map(again).collect()
+    }
 }
 
-/// Judges a crate as an edit has left it: by what rt says, and by the shape of its code, which was `code` before.
-fn judge_applied(copy: &Copy, edit: &Edit, code: &str) -> Result<Verdict, String> {
-    let proof = copy.proof_of(&edit.crate_name, &edit.at);
-    let log = copy.check(&edit.crate_name)?;
-    let verdict = judge::judge(&log, &edit.crate_name, &edit.at, proof.as_deref());
-    if let Verdict::Fault(reason) = verdict {
-        return Err(format!("{reason}:\n{}", copy::start_of(&log).trim_end()));
-    }
-    if let (Verdict::Refused(_), Some(file), true) = (&verdict, proof, edit.changes_code()) {
-        let path = copy.crate_folder(&edit.crate_name).join(file);
-        let proof = fs::read_to_string(path).map_err(|error| error.to_string())?;
-        if shape::shape(&copy.code(&edit.crate_name)?, &proof) != shape::shape(code, &proof) {
-            return Err("it changes the shape of the code".to_string());
+/// Applies edits of one crate, has rt check the crate, undoes the edits and judges each.
+fn try_edits<'a>(copy: &Copy, edits: &[&'a Edit], codes: &BTreeMap<&str, String>) -> Vec<Tried<'a>> {
+    let (began, name) = (Instant::now(), &edits[0].crate_name);
+    let judged = edit::apply_all(edits, &copy.crate_folder(name)).and_then(|before| {
+        let judged = judge_applied(copy, edits, &codes[name.as_str()]);
+        edit::write(&before).and(judged)
+    });
+    let verdicts = judged.unwrap_or_else(|reason| edits.iter().map(|_| Verdict::Fault(reason.clone())).collect());
+    let seconds = began.elapsed().as_secs_f64() / edits.len() as f64;
+    edits.iter().zip(verdicts).map(|(edit, verdict)| (*edit, verdict, seconds)).collect()
+}
+
+/// Judges a crate as edits have left it, each edit by what rt says of its place and by the shape of the code, which was `code`
+/// before.
+fn judge_applied(copy: &Copy, edits: &[&Edit], code: &str) -> Result<Vec<Verdict>, String> {
+    let name = &edits[0].crate_name;
+    let (log, edited) = (copy.check(name)?, copy.code(name)?);
+    let places: Vec<Place> =
+        edits.iter().map(|edit| Place { at: &edit.at, proof: copy.proof_of(name, &edit.at) }).collect();
+    let verdicts = edits.iter().zip(&places).map(|(edit, place)| {
+        let verdict = judge::judge(&judge::of_place(&log, name, place, &places), name, place);
+        match (verdict, &place.proof) {
+            (Verdict::Fault(reason), _) => {
+                Ok(Verdict::Fault(format!("{reason}:\n{}", copy::start_of(&log).trim_end())))
+            }
+            (Verdict::Refused(first), Some(file)) if edit.changes_code() => {
+                let path = copy.crate_folder(name).join(file);
+                let proof = fs::read_to_string(path).map_err(|error| error.to_string())?;
+                let same = shape::shape(&edited, &proof) == shape::shape(code, &proof);
+                Ok(if same {
+                    Verdict::Refused(first)
+                } else {
+                    Verdict::Fault("it changes the shape of the code".to_string())
+                })
+            }
+            (verdict, _) => Ok(verdict),
         }
-    }
-    Ok(verdict)
+    });
+    verdicts.collect()
 }
 
 /// What is printed of an edit.
