@@ -6,7 +6,7 @@ ghost use lib.ListN.{length, set};
 ghost use Rattle.shelf.specs.Words.{words};
 ghost use Rattle.shelf.specs.HashList.{entry, addressAt, oriAt, curAt, nextAt};
 ghost use Rattle.shelf.specs.below.Checking.{HasPlace};
-ghost use Rattle.shelf.specs.below.Rewriting.{Put, placed, KeptFrom, LinksKept};
+ghost use Rattle.shelf.specs.below.Rewriting.{put3, Put, placed, KeptFrom, LinksKept};
 
 // The block address in place p.
 pub fn address(list: &[u8], h: usize, p: usize) -> usize
@@ -62,10 +62,8 @@ pub fn put(list: &mut [u8], h: usize, p: usize, a: usize, o: usize, c: usize, y:
     requires { ⌜ y < 4294967296 ⌝ }
     ensures { λ _. ⌜ Put h p (entry a o c) y (words (now (list .entry))) (words (now (list .exit))) ⌝ }
 {
-    words::put_word(list, h + 4 * p, a);
-    words::put_word(list, h + 4 * p + 1, o);
-    words::put_word(list, h + 4 * p + 2, c);
-    words::put_word(list, h + 4 * p + 3, y);
+    put_words(list, h, p, a, o, c);
+    put_next(list, h, p, y);
 }
 
 // Puts an entry in place i of e, behind h slot heads. Its Next is left, and so are all words behind the place.
@@ -81,7 +79,18 @@ pub fn put_entry(list: &mut [u8], h: usize, e: usize, i: usize, a: usize, o: usi
     ensures { λ _. ⌜ KeptFrom (h + 4 * (i + 1)) (words (now (list .entry))) (words (now (list .exit))) ⌝ }
     ensures { λ _. ⌜ LinksKept h (words (now (list .entry))) (words (now (list .exit))) ⌝ }
 {
-    words::put_word(list, h + 4 * i, a);
-    words::put_word(list, h + 4 * i + 1, o);
-    words::put_word(list, h + 4 * i + 2, c);
+    put_words(list, h, i, a, o, c);
+}
+
+// Puts a block address, its Ori and its Cur in place p, as words.
+fn put_words(list: &mut [u8], h: usize, p: usize, a: usize, o: usize, c: usize)
+    requires { ⌜ HasPlace h p (length (now list)) ⌝ }
+    requires { ⌜ a < 4294967296 ⌝ }
+    requires { ⌜ o < 4294967296 ⌝ }
+    requires { ⌜ c < 4294967296 ⌝ }
+    ensures { λ _. ⌜ words (now (list .exit)) ≡ put3 (words (now (list .entry))) (h + 4 * p) a o c ⌝ }
+{
+    words::put_word(list, h + 4 * p, a);
+    words::put_word(list, h + 4 * p + 1, o);
+    words::put_word(list, h + 4 * p + 2, c);
 }

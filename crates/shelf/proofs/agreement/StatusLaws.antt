@@ -8,15 +8,15 @@ use native.Mathlib.Nat.{div-lt-iff-lt-mul, mul-comm}
 use native.Mathlib.Omega.{arith}
 use lib.Dec.{eqb, ltb}
 use lib.ListN.{length}
-use borrow.Author.Tests.{ltb-false, eqb-true, leb-false, not-false}
+use borrow.Author.Tests.{ltb-false, eqb-true, not-false}
 use Rattle.shelf.specs.Counting.{count}
 use Rattle.shelf.specs.Members.{InRange, arrayMembers, logMember, allMembers, memberAt, addresses, wanted}
 use Rattle.shelf.specs.State.{State, listed, marksIn}
-use Rattle.shelf.specs.Status.{Call, start, fail, putBack, write, read, fetch, resync, rebuild, newLog, fullResync, badAddress, badData, badMember, notNormal, isNormal, arrayFailed, logFailed, alreadyFailed, limitReached, arraySound, logSound, someListed, withheld, fetchWithheld, dataWithheld, readFailed, row, codeOf}
+use Rattle.shelf.specs.Status.{Call, start, fail, putBack, write, read, fetch, resync, rebuild, newLog, fullResync, badAddress, badData, notNormal, isNormal, arrayFailed, logFailed, arraySound, logSound, someListed, withheld, fetchWithheld, dataWithheld, readFailed, row, codeOf}
 use Rattle.shelf.specs.Calls.{code}
 use Rattle.shelf.specs.Book.{Book, bookCode}
 use Rattle.shelf.specs.declared.record.Geometry.{Geometry}
-use Rattle.shelf.proofs.numbers.TableRows.{row-zero, row-ext, blocks-zero, put-back-zero}
+use Rattle.shelf.proofs.numbers.TableRows.{row-zero, row-ext, blocks-zero, fail-zero, put-back-zero}
 use Rattle.shelf.proofs.general.CountLaws.{any-ext, any-none}
 use Rattle.shelf.proofs.general.TestLaws.{or-right}
 use Rattle.shelf.proofs.agreement.ListedLaws.{marksIn-ext, stale-ext}
@@ -40,12 +40,7 @@ module _ (g : Geometry) (s : State) where
       (r8 .0, row-zero 9 (logFailed g (s .failed)) 0 (λ e. omega arith) (r8 .1) .0)
 
   pub fail-passed : (j : ℕ) → code g (fail j) s ≡ 0 → (j ≤ logMember g) × ((s .failed j ≡ false) × (count (allMembers g) (s .failed) < g .parities))
-  unfolding codeOf
-  fail-passed j z =
-      let r6 = row-zero 6 (badMember g j) _ (λ e. omega arith) z in
-      let r10 = row-zero 10 (alreadyFailed (s .failed) j) _ (λ e. omega arith) (r6 .1) in
-      let r11 = row-zero 11 (limitReached g (s .failed)) 0 (λ e. omega arith) (r10 .1) in
-      (ltb-false _ _ (r6 .0), (r10 .0, leb-false _ _ (r11 .0)))
+  fail-passed j z = fail-zero g (s .failed) (s .mode) (listed (s .log)) j z
 
   pub put-back-passed : (j : ℕ) → code g (putBack j) s ≡ 0 → (j < arrayMembers g) × (s .failed j ≡ true)
   put-back-passed j z = put-back-zero g (s .failed) (s .mode) (listed (s .log)) j z

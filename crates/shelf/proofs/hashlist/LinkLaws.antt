@@ -17,14 +17,14 @@ use Rattle.shelf.specs.declared.record.Geometry.{Geometry}
 use Rattle.shelf.specs.Words.{words, bytesOf}
 use Rattle.shelf.specs.below.Lists.{Lists, FirstFrom}
 use Rattle.shelf.specs.HashList.{noneWord, addressAt, nextAt, valid, Entry, entry, entryIn, entries, putFront, putAll, encode}
-use Rattle.shelf.specs.below.Rewriting.{Rewritten, dropStripe, table, placed, without, Blanked, KeptFrom, Leads, Chained, skip, Upward, Lowers, HeadsLowered, NextsLowered, Down, MovedDown, Put, Up, HeadsRaised, NextsRaised, MovedUp, GapMade, LastBelow, LinkedIn, merged, Replaces, held, Segment, LinksKept, NotBelow, Opened, Filled}
+use Rattle.shelf.specs.below.Rewriting.{Rewritten, dropStripe, table, placed, put3, without, Blanked, KeptFrom, Leads, Chained, skip, Upward, Lowers, HeadsLowered, NextsLowered, Down, MovedDown, Put, Up, HeadsRaised, NextsRaised, MovedUp, GapMade, LastBelow, LinkedIn, merged, Replaces, held, Segment, LinksKept, NotBelow, Opened, Filled}
 use Rattle.shelf.proofs.general.TestLaws.{choose-true, choose-false}
 use Rattle.shelf.proofs.general.AddressLaws.{stripe-of}
 use Rattle.shelf.proofs.hashlist.ChainLaws.{entry-eq, length-all, front-head, front-next, front-slot, front-place}
 use Rattle.shelf.proofs.hashlist.CheckLaws.{place-words, stands-same}
 use Rattle.shelf.proofs.hashlist.DecodeLaws.{InE, Stands, stands, put-unused}
 use Rattle.shelf.proofs.hashlist.FoundLaws.{entries-taken, entries-rising, entries-count, list-is, listed-room, unused}
-use Rattle.shelf.proofs.hashlist.TableLaws.{noEntry, length-table, table-get, table-take, table-ext}
+use Rattle.shelf.proofs.hashlist.TableLaws.{noEntry, length-table, table-get, table-take, table-ext, three-same, other-words}
 use Rattle.shelf.proofs.hashlist.EntryLaws.{drop-in, drop-none, length-merged, spread-merged}
 use Rattle.shelf.proofs.hashlist.AlterLaws.{dropped}
 use Rattle.shelf.proofs.hashlist.InPlaceLaws.{stands-table, table-append, table-drop, drop-more, drop-away, drop-table, not-below}
@@ -334,26 +334,18 @@ nexts-turn h p t i y r w u v ip il H ey M e =
 
 -- ---- a place's four words put
 
-pub put-made : (h j a o c y : ℕ) (w : List ℕ) {w1 w2 w3 w4 : List ℕ} → h + 4 * j + 4 ≤ length w → w1 ≡ set w (h + 4 * j) a → w2 ≡ set w1 (h + 4 * j + 1) o
-    → w3 ≡ set w2 (h + 4 * j + 2) c → w4 ≡ set w3 (h + 4 * j + 3) y → Put h j (entry a o c) y w w4
-put-made h j a o c y w {w1 = w1} {w2 = w2} {w3 = w3} {w4 = w4} l e1 e2 e3 e4 =
-    let l1 : length w1 ≡ length w = ap length e1 ∙ length-set w (h + 4 * j) a in
-    let l2 : length w2 ≡ length w = ap length e2 ∙ length-set w1 (h + 4 * j + 1) o ∙ l1 in
-    let l3 : length w3 ≡ length w = ap length e3 ∙ length-set w2 (h + 4 * j + 2) c ∙ l2 in
-    let x4 : (k : ℕ) → k ≢ h + 4 * j + 3 → getD w4 k 0 ≡ getD w3 k 0 = λ k n. ap (λ (x : List ℕ). getD x k 0) e4 ∙ getD-set-other w3 (h + 4 * j + 3) k y 0 n in
-    let x3 : (k : ℕ) → k ≢ h + 4 * j + 2 → getD w3 k 0 ≡ getD w2 k 0 = λ k n. ap (λ (x : List ℕ). getD x k 0) e3 ∙ getD-set-other w2 (h + 4 * j + 2) k c 0 n in
-    let x2 : (k : ℕ) → k ≢ h + 4 * j + 1 → getD w2 k 0 ≡ getD w1 k 0 = λ k n. ap (λ (x : List ℕ). getD x k 0) e2 ∙ getD-set-other w1 (h + 4 * j + 1) k o 0 n in
-    let x1 : (k : ℕ) → k ≢ h + 4 * j → getD w1 k 0 ≡ getD w k 0 = λ k n. ap (λ (x : List ℕ). getD x k 0) e1 ∙ getD-set-other w (h + 4 * j) k a 0 n in
+pub put-made : (h j a o c y : ℕ) (w : List ℕ) {w3 w4 : List ℕ} → h + 4 * j + 4 ≤ length w → w3 ≡ put3 w (h + 4 * j) a o c → w4 ≡ set w3 (h + 4 * j + 3) y
+    → Put h j (entry a o c) y w w4
+put-made h j a o c y w {w3 = w3} {w4 = w4} l e3 e4 =
+    let long : length w3 ≡ length w = ap length e3 ∙ simp length-set in
+    let last : (k : ℕ) → k ≢ h + 4 * j + 3 → getD w4 k 0 ≡ getD w3 k 0 = λ k n. ap (λ (x : List ℕ). getD x k 0) e4 ∙ getD-set-other w3 (h + 4 * j + 3) k y 0 n in
     record {
-      entry = entry-eq (entryIn w4 h j) (entry a o c)
-          (x4 (h + 4 * j) (λ b. omega arith) ∙ x3 (h + 4 * j) (λ b. omega arith) ∙ x2 (h + 4 * j) (λ b. omega arith)
-          ∙ ap (λ (x : List ℕ). getD x (h + 4 * j) 0) e1 ∙ getD-set-same w (h + 4 * j) a 0 (omega arith))
-          (x4 (h + 4 * j + 1) (λ b. omega arith) ∙ x3 (h + 4 * j + 1) (λ b. omega arith)
-          ∙ ap (λ (x : List ℕ). getD x (h + 4 * j + 1) 0) e2 ∙ getD-set-same w1 (h + 4 * j + 1) o 0 (omega arith))
-          (x4 (h + 4 * j + 2) (λ b. omega arith) ∙ ap (λ (x : List ℕ). getD x (h + 4 * j + 2) 0) e3 ∙ getD-set-same w2 (h + 4 * j + 2) c 0 (omega arith));
-      next = ap (λ (x : List ℕ). getD x (h + 4 * j + 3) 0) e4 ∙ getD-set-same w3 (h + 4 * j + 3) y 0 (omega arith);
-      below = λ q b. x4 q (λ z. omega arith) ∙ x3 q (λ z. omega arith) ∙ x2 q (λ z. omega arith) ∙ x1 q (λ z. omega arith);
-      rest = λ q b. x4 q (λ z. omega arith) ∙ x3 q (λ z. omega arith) ∙ x2 q (λ z. omega arith) ∙ x1 q (λ z. omega arith);
+      entry = entry-eq (entryIn w4 h j) (entryIn w3 h j)
+          (last (h + 4 * j) (λ b. omega arith)) (last (h + 4 * j + 1) (λ b. omega arith)) (last (h + 4 * j + 2) (λ b. omega arith))
+          ∙ ap (λ (x : List ℕ). entryIn x h j) e3 ∙ three-same w (h + 4 * j) a o c (omega arith);
+      next = ap (λ (x : List ℕ). getD x (h + 4 * j + 3) 0) e4 ∙ getD-set-same w3 (h + 4 * j + 3) y 0 (omega (arith, long));
+      below = λ q b. last q (λ z. omega arith) ∙ other-words w w3 (h + 4 * j) a o c e3 q (λ z. omega arith) (λ z. omega arith) (λ z. omega arith);
+      rest = λ q b. last q (λ z. omega arith) ∙ other-words w w3 (h + 4 * j) a o c e3 q (λ z. omega arith) (λ z. omega arith) (λ z. omega arith);
     }
 
 -- ---- places moved down one by one

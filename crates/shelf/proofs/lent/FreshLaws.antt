@@ -5,23 +5,21 @@ use mathlib.Core.List.{List, []}
 use mathlib.Core.Path.{_≡_, refl, sym, ap, _∙_, subst, fun-ext}
 use Prim.Native.Nat.{ℕ, zero, suc, _+_, _*_, _<_}
 use native.Mathlib.Omega.{arith}
-use lib.Dec.{leb}
 use lib.ListN.{length, getD, replicate, length-replicate}
 use lib.Seq.{ext-getD}
 use borrow.Author.Tests.{le-ltb}
 use Rattle.stripe.specs.Blocks.{block, gen}
 use Rattle.stripe.proofs.Laws.{length-block, getD-block, length-gen, getD-gen, fits, place-lt}
 use Rattle.shelf.specs.Counting.{count, bit}
-use Rattle.shelf.specs.Members.{InRange, arrayMembers, allMembers, parityRole, blank, addressOf, placeAt}
+use Rattle.shelf.specs.Members.{InRange, arrayMembers, parityRole, blank, addressOf, placeAt}
 use Rattle.shelf.specs.State.{freshState, listed, isSome}
 use Rattle.shelf.specs.Book.{freshBook}
 use Rattle.shelf.specs.Words.{words}
 use Rattle.shelf.specs.HashList.{noneWord, Entry, said, valid, encode}
-use Rattle.shelf.specs.Lent.{flag, flagFrom, recordAt, arrayBlock, badRecord, arrayLength, logLength, listLength, flagsFrom, roleBlock, freshRecord, noneList, formatted, Leaves}
+use Rattle.shelf.specs.Lent.{flag, recordAt, arrayBlock, badRecord, arrayLength, logLength, listLength, flagsFrom, roleBlock, freshRecord, noneList, formatted, Leaves}
 use Rattle.shelf.specs.Clean.{Clean}
 use Rattle.shelf.specs.declared.record.Geometry.{Geometry}
-use Rattle.shelf.proofs.general.CountLaws.{none-any}
-use Rattle.shelf.proofs.general.TestLaws.{and-fine}
+use Rattle.shelf.proofs.numbers.FailureLaws.{above-fine}
 use Rattle.shelf.proofs.numbers.InputLaws.{measures-fine, record-fine, lengths-fine}
 use Rattle.shelf.proofs.hashlist.WordLaws.{words-bytes}
 use Rattle.shelf.proofs.lent.FormatLaws.{none-bytes}
@@ -110,8 +108,7 @@ unfolding count bit
 fresh-record g =
     record-fine (freshRecord g) (record {
       modes = refl;
-      above = none-any 19 (flagFrom (replicate 19 false) (allMembers g))
-          (λ i _. and-fine (leb (allMembers g) i) (flag (replicate 19 false) i) (λ _. no-flag 19 i));
+      above = above-fine (freshRecord g) (λ i _. no-flag 19 i);
       few = le-ltb (g .parities) 0 (omega arith);
       room = le-ltb (g .l) 0 (omega arith);
       fits = le-ltb (g .e) 0 (omega arith);

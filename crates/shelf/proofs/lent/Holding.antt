@@ -5,31 +5,31 @@ use mathlib.Core.Bool.{Bool, true, false, _||_}
 use mathlib.Core.List.{List}
 use mathlib.Core.Option.{Option}
 use mathlib.Core.Path.{_≡_, refl, sym, ap, ap₂, _∙_, subst, fun-ext}
-use Prim.Native.Nat.{ℕ, zero, _+_, _-_, _≤_}
+use Prim.Native.Nat.{ℕ, zero, _+_, _≤_}
 use native.Mathlib.Decide.{decLt, ℕ-discrete}
 use native.Mathlib.Omega.{arith}
-use lib.Dec.{eqb, ltb, leb}
+use lib.Dec.{eqb, ltb}
 use lib.ListN.{length, List·getD-eq-default}
-use borrow.Author.Tests.{ne-eqb, le-ltb, leb-true, eqb-true}
+use borrow.Author.Tests.{ne-eqb, le-ltb, eqb-true}
 use Rattle.stripe.specs.Blocks.{block}
 use Rattle.shelf.specs.Counting.{count, any}
 use Rattle.shelf.specs.below.Records.{Sized}
-use Rattle.shelf.specs.Members.{InRange, logMember}
+use Rattle.shelf.specs.Members.{InRange, logMember, allMembers}
 use Rattle.shelf.specs.State.{State, isSome, listed, marksIn}
 use Rattle.shelf.specs.Status.{Call}
 use Rattle.shelf.specs.Calls.{code}
 use Rattle.shelf.specs.Book.{Book, bookWork, bookCode, bookAfter}
 use Rattle.shelf.specs.Words.{words}
 use Rattle.shelf.specs.HashList.{valid}
-use Rattle.shelf.specs.Lent.{Lent, lent, flag, flagFrom, flagAt, stateOf, arrayLength, logLength, listLength, numberOf, recordOf, flagsOf, listedBy, arrayOf, logOf, listOf, Leaves, Answered}
+use Rattle.shelf.specs.Lent.{Lent, lent, flag, flagAt, stateOf, arrayLength, logLength, listLength, numberOf, recordOf, flagsOf, listedBy, arrayOf, logOf, listOf, Leaves, Answered}
 use Rattle.shelf.specs.below.Showing.{HoldsList}
 use Rattle.shelf.specs.Sequence.{Fed, Reported, reportedAfter, Returned, Changed}
 use Rattle.shelf.specs.Clean.{Recalled}
 use Rattle.shelf.specs.declared.record.Geometry.{Geometry}
 use Rattle.shelf.specs.declared.record.Shelf.{Shelf}
 use Rattle.shelf.proofs.general.TestLaws.{and-fine}
-use Rattle.shelf.proofs.general.CountLaws.{none-any, count-top}
 use Rattle.shelf.proofs.numbers.InputLaws.{sized, Fine, record-fine, Passed, passed-number}
+use Rattle.shelf.proofs.numbers.FailureLaws.{above-fine, flags-count}
 use Rattle.shelf.proofs.lent.LayoutLaws.{array-length, array-back, log-length, log-back, role-data, role-parity, flags-length, flag-back}
 use Rattle.shelf.proofs.lent.ListLayout.{laid-holds}
 use Rattle.shelf.proofs.agreement.ListedLaws.{marksIn-ext}
@@ -68,25 +68,18 @@ module _ (h : Lent) (b : Book) (small : Sized (h .shelf .geometry)) (H : Holds h
   none-listed : eqb (r .listed) 0 ≡ true → marksIn g (listed (stateOf h .log)) ≡ 0
   none-listed e = sym (H .listed-are) ∙ eqb-true (r .listed) 0 e
 
-  flags-count : count 19 (flagAt r) ≡ count (g .d + g .parities + 1) (flagAt r)
+  -- no flag above the log's is set
+  top : (i : ℕ) → allMembers g ≤ i → flagAt r i ≡ false
   unfolding stateOf
-  flags-count =
-      (let q : 19 ≡ g .d + g .parities + 1 + (19 - (g .d + g .parities + 1)) = omega (arith, small .0, small .1 .1) in ap (λ (k : ℕ). count k (flagAt r)) q)
-      ∙ count-top (g .d + g .parities + 1) (19 - (g .d + g .parities + 1)) (flagAt r) (A .valid .top)
-
-  none-above : any 19 (flagFrom (r .failed) (g .d + g .parities + 1)) ≡ false
-  unfolding stateOf
-  none-above =
-      none-any 19 (flagFrom (r .failed) (g .d + g .parities + 1))
-      (λ i _. and-fine (leb (g .d + g .parities + 1) i) (flagAt r i) (λ t. A .valid .top i (leb-true (g .d + g .parities + 1) i t)))
+  top = A .valid .top
 
   fine : Fine r
   unfolding stateOf
   fine =
       record {
         modes = le-ltb 2 (r .mode) (A .valid .modes);
-        above = none-above;
-        few = le-ltb (r .geometry .parities) (count 19 (flagAt r)) (omega (arith, flags-count, A .near .few));
+        above = above-fine r top;
+        few = le-ltb (r .geometry .parities) (count 19 (flagAt r)) (omega (arith, flags-count r top small, A .near .few));
         room = le-ltb (g .l) (r .next) (A .valid .room);
         fits = le-ltb (g .e) (r .listed) (omega (arith, H .listed-are, A .valid .fits));
         idle = and-fine (eqb (r .listed) 0) (ltb 0 (r .next)) (λ e. le-ltb 0 (r .next) (omega (arith, A .idle (none-listed e) .0)));

@@ -7,15 +7,14 @@ use mathlib.Core.Path.{_≡_, refl, sym, ap, _∙_}
 use Prim.Native.Nat.{ℕ, _+_, _<_}
 use native.Mathlib.Omega.{arith}
 use lib.Dec.{ltb}
-use borrow.Author.Tests.{ltb-false}
 use Rattle.shelf.specs.Members.{InRange, arrayMembers}
 use Rattle.shelf.specs.below.Records.{Sized, newLogRows, callOf}
-use Rattle.shelf.specs.Status.{fail, putBack, newLog, badMember, logSound, row, codeOf}
+use Rattle.shelf.specs.Status.{fail, putBack, newLog, logSound, row, codeOf}
 use Rattle.shelf.specs.Lent.{flagAt, badMeasures, inputRows, triesList, listedBy, numberOf}
 use Rattle.shelf.specs.declared.record.Shelf.{Shelf}
 use Rattle.shelf.specs.declared.status.Request.{Request}
 use Rattle.shelf.proofs.numbers.InputLaws.{Passed, in-range, sized, inputs-pass, inputs-then, inputs-refuse}
-use Rattle.shelf.proofs.numbers.TableRows.{row-zero, put-back-zero}
+use Rattle.shelf.proofs.numbers.TableRows.{row-zero, fail-zero, put-back-zero}
 use Rattle.shelf.proofs.hashlist.ListMarks.{marks-listed}
 
 -- ---- the number of a request
@@ -60,12 +59,11 @@ module _ (r : Shelf) (na nl : ℕ) (list : List ℕ) where
 
 module _ (r : Shelf) (na nl : ℕ) (l : List ℕ) where
   pub fail-bounds : (j : ℕ) → 0 ≡ numberOf r na nl l (fail j) → Sized (r .geometry) × (j < 19)
-  unfolding numberOf triesList codeOf
+  unfolding numberOf triesList
   fail-bounds j e =
       let P = inputs-pass r na nl l _ (sym e) in
-      let six = row-zero 6 (badMember (r .geometry) j) _ (λ z. omega arith) (P .1) .0 in
-      let most = ltb-false (r .geometry .d + r .geometry .parities) j six in
-      (sized (P .0 .range), omega (arith, P .0 .range .d-most, P .0 .range .parities-most, most))
+      let o = fail-zero (r .geometry) (flagAt r) (r .mode) (listedBy (r .geometry) l) j (P .1) in
+      (sized (P .0 .range), omega (arith, P .0 .range .d-most, P .0 .range .parities-most, o .0))
 
   pub put-back-bounds : (j : ℕ) → 0 ≡ numberOf r na nl l (putBack j) → (j < 19) × ((j < arrayMembers (r .geometry)) × (flagAt r j ≡ true))
   unfolding numberOf triesList

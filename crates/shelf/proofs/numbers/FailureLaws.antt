@@ -10,15 +10,15 @@ use lib.Dec.{eqb, ltb, leb}
 use lib.ListN.{length, getD, set, length-set, List·getD-eq-default}
 use lib.Seq.{ext-getD, getD-set-same, getD-set-other}
 use borrow.Author.Tests.{eq-eqb, eqb-true, eqb-false, le-leb, le-ltb, leb-true, ne-eqb}
-use Rattle.shelf.specs.Counting.{choose, count}
+use Rattle.shelf.specs.Counting.{choose, count, any}
 use Rattle.shelf.specs.Members.{InRange, arrayMembers, logMember, allMembers}
 use Rattle.shelf.specs.Lent.{flagFrom, flagAt, badRecord}
-use Rattle.shelf.specs.below.Records.{modeThen, withFailed, withRenewed}
+use Rattle.shelf.specs.below.Records.{Sized, modeThen, withFailed, withRenewed}
 use Rattle.shelf.specs.declared.record.Shelf.{Shelf}
 use Rattle.shelf.proofs.general.CountLaws.{bit-most, any-none, none-any, count-at, count-top}
 use Rattle.shelf.proofs.general.TestLaws.{cases, clash, and-fine, choose-true, choose-false}
 use Rattle.shelf.proofs.numbers.RecordLaws.{mode-member}
-use Rattle.shelf.proofs.numbers.InputLaws.{Fine, fine-record, record-fine}
+use Rattle.shelf.proofs.numbers.InputLaws.{sized, Fine, fine-record, record-fine}
 
 -- no flag above the log's is set
 pub none-above : (r : Shelf) → badRecord r ≡ false → length (r .failed) ≡ 19 → (i : ℕ) → allMembers (r .geometry) ≤ i → flagAt r i ≡ false
@@ -29,6 +29,18 @@ none-above r fine long i o =
           ∙ any-none 19 (flagFrom (r .failed) (allMembers (r .geometry))) (fine-record r fine .above) i l
       | no l ↦ List·getD-eq-default (r .failed) false (omega (arith, long))
     ]
+
+-- and then none is found there, and none counts
+module _ (r : Shelf) (top : (i : ℕ) → allMembers (r .geometry) ≤ i → flagAt r i ≡ false) where
+  pub above-fine : any 19 (flagFrom (r .failed) (allMembers (r .geometry))) ≡ false
+  above-fine =
+      none-any 19 (flagFrom (r .failed) (allMembers (r .geometry)))
+      (λ i _. and-fine (leb (allMembers (r .geometry)) i) (flagAt r i) (λ t. top i (leb-true (allMembers (r .geometry)) i t)))
+
+  pub flags-count : Sized (r .geometry) → count 19 (flagAt r) ≡ count (allMembers (r .geometry)) (flagAt r)
+  flags-count small =
+      let n = allMembers (r .geometry) in
+      (let q : 19 ≡ n + (19 - n) = omega (arith, small .0, small .1 .1) in ap (λ (k : ℕ). count k (flagAt r)) q) ∙ count-top n (19 - n) (flagAt r) top
 
 -- ---- row 1
 
@@ -44,10 +56,7 @@ module _ (r : Shelf) (Y : InRange (r .geometry)) (fine : badRecord r ≡ false) 
   -- there are no more than the parities
   few : count 19 (flagAt (withFailed r j)) ≤ r .geometry .parities
   few =
-      let n = allMembers (r .geometry) in
-      let top : count (n + (19 - n)) (flagAt r) ≡ count n (flagAt r) = count-top n (19 - n) (flagAt r) (none-above r fine long) in
-      let all : n + (19 - n) ≡ 19 = omega (arith, Y .d-most, Y .parities-most) in
-      let same : count 19 (flagAt r) ≡ count n (flagAt r) = ap (λ (m : ℕ). count m (flagAt r)) (sym all) ∙ top in
+      let same = flags-count r (none-above r fine long) (sized Y) in
       let e = count-at 19 (flagAt (withFailed r j)) (flagAt r) j (omega (arith, member, Y .d-most, Y .parities-most)) (λ i _ q. other i q) in
       omega (arith, e, same, limit, bit-most (flagAt (withFailed r j) j))
 
@@ -76,10 +85,7 @@ module _ (r : Shelf) (Y : InRange (r .geometry)) (fine : badRecord r ≡ false) 
   reported-fine =
       record-fine (withFailed r j) (record {
         modes = cases ends (λ e. over e (λ m. ltb 2 m ≡ false) (λ _. refl) (λ _. refl)) (λ e. ap (ltb 2) (stays e) ∙ F .modes);
-        above = none-any 19 (flagFrom (withFailed r j .failed) (allMembers (r .geometry)))
-            (λ i l. and-fine (leb (allMembers (r .geometry)) i) (flagAt (withFailed r j) i) (λ t.
-            let o = leb-true (allMembers (r .geometry)) i t in
-            other i (λ q. omega (arith, o, q, member)) ∙ none-above r fine long i o));
+        above = above-fine (withFailed r j) (λ i o. other i (λ q. omega (arith, o, q, member)) ∙ none-above r fine long i o);
         few = le-ltb (r .geometry .parities) (count 19 (flagAt (withFailed r j))) few;
         room = F .room;
         fits = F .fits;

@@ -185,44 +185,42 @@ unfolding badLengths
 lengths-fine g na nl nt a l t =
     ap₂ _||_ (ap not (eq-eqb na (arrayLength g) a)) (ap₂ _||_ (ap not (eq-eqb nl (logLength g) l)) (ap not (eq-eqb nt (listLength g) t)))
 
-pub inputs-pass : (r : Shelf) (na nl : ℕ) (l : List ℕ) (rest : ℕ) → inputRows r na nl l true rest ≡ 0 → Passed r na nl l × (rest ≡ 0)
+-- none of them applies, nor does what is tried after them
+inputs-zero : (r : Shelf) (na nl : ℕ) (l : List ℕ) (three : Bool) (rest : ℕ) → inputRows r na nl l three rest ≡ 0
+    → (badMeasures (r .geometry) ≡ false) × ((badRecord r ≡ false) × ((badLengths (r .geometry) na nl (length l) ≡ false) × (((three && badList r l) ≡ false) × (rest ≡ 0))))
 unfolding inputRows
-inputs-pass r na nl l rest e =
+inputs-zero r na nl l three rest e =
     let a = row-zero 1 (badMeasures (r .geometry)) _ (λ z. omega arith) e in
     let b = row-zero 1 (badRecord r) _ (λ z. omega arith) (a .1) in
     let c = row-zero 2 (badLengths (r .geometry) na nl (length l)) _ (λ z. omega arith) (b .1) in
-    let d = row-zero 3 (badList r l) rest (λ z. omega arith) (c .1) in
-    let n = lengths-pass (r .geometry) na nl (length l) (c .0) in (
+    (a .0, (b .0, (c .0, row-zero 3 (three && badList r l) rest (λ z. omega arith) (c .1))))
+
+pub inputs-pass : (r : Shelf) (na nl : ℕ) (l : List ℕ) (rest : ℕ) → inputRows r na nl l true rest ≡ 0 → Passed r na nl l × (rest ≡ 0)
+inputs-pass r na nl l rest e =
+    let z = inputs-zero r na nl l true rest e in
+    let n = lengths-pass (r .geometry) na nl (length l) (z .1 .1 .0) in (
       record {
-        range = in-range (r .geometry) (a .0);
-        fine = b .0;
+        range = in-range (r .geometry) (z .0);
+        fine = z .1 .0;
         array = n .0;
         log = n .1 .0;
         list = n .1 .1;
-        valid = not-off (valid (words l) (r .geometry) (r .next) (r .listed)) (d .0);
+        valid = not-off (valid (words l) (r .geometry) (r .next) (r .listed)) (z .1 .1 .1 .0);
       },
-      d .1,
+      z .1 .1 .1 .1,
     )
 
 -- an accepted call passes the rows after 1 to 3 too
 pub inputs-rest : (r : Shelf) (na nl : ℕ) (l : List ℕ) (three : Bool) (rest : ℕ) → inputRows r na nl l three rest ≡ 0 → rest ≡ 0
-unfolding inputRows
-inputs-rest r na nl l three rest e =
-    let a = row-zero 1 (badMeasures (r .geometry)) _ (λ z. omega arith) e in
-    let b = row-zero 1 (badRecord r) _ (λ z. omega arith) (a .1) in
-    let c = row-zero 2 (badLengths (r .geometry) na nl (length l)) _ (λ z. omega arith) (b .1) in
-    row-zero 3 (three && badList r l) rest (λ z. omega arith) (c .1) .1
+inputs-rest r na nl l three rest e = inputs-zero r na nl l three rest e .1 .1 .1 .1
 
 -- the rows after 1 to 3 are tried where those pass, and only there
 pub inputs-then : (r : Shelf) (na nl : ℕ) (l : List ℕ) (three : Bool) (rest : ℕ) → inputRows r na nl l three 0 ≡ 0 → inputRows r na nl l three rest ≡ rest
 unfolding inputRows
 inputs-then r na nl l three rest e =
-    let a = row-zero 1 (badMeasures (r .geometry)) _ (λ z. omega arith) e in
-    let b = row-zero 1 (badRecord r) _ (λ z. omega arith) (a .1) in
-    let c = row-zero 2 (badLengths (r .geometry) na nl (length l)) _ (λ z. omega arith) (b .1) in
-    let d = row-zero 3 (three && badList r l) 0 (λ z. omega arith) (c .1) in
-    sym (row-pass 1 (badMeasures (r .geometry)) _ rest (a .0) (row-pass 1 (badRecord r) _ rest (b .0)
-    (row-pass 2 (badLengths (r .geometry) na nl (length l)) _ rest (c .0) (row-pass 3 (three && badList r l) rest rest (d .0) refl))))
+    let z = inputs-zero r na nl l three 0 e in
+    sym (row-pass 1 (badMeasures (r .geometry)) _ rest (z .0) (row-pass 1 (badRecord r) _ rest (z .1 .0)
+    (row-pass 2 (badLengths (r .geometry) na nl (length l)) _ rest (z .1 .1 .0) (row-pass 3 (three && badList r l) rest rest (z .1 .1 .1 .0) refl))))
 
 pub inputs-refuse : (r : Shelf) (na nl : ℕ) (l : List ℕ) (three : Bool) (rest : ℕ) → inputRows r na nl l three 0 ≢ 0
     → inputRows r na nl l three 0 ≡ inputRows r na nl l three rest

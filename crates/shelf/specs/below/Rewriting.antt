@@ -6,7 +6,7 @@ use mathlib.Core.Bool.{Bool, true, false}
 use mathlib.Core.List.{List, [], _∷_, _++_}
 use mathlib.Core.Logic.{_⊎_, _≢_}
 use lib.Dec.{ltb, eqb}
-use lib.ListN.{length, getD, take, drop}
+use lib.ListN.{length, getD, set, take, drop}
 use Rattle.shelf.specs.declared.record.Geometry.{Geometry}
 use Rattle.shelf.specs.Counting.{choose}
 use Rattle.shelf.specs.Words.{words, bytesOf}
@@ -68,6 +68,10 @@ pub record Replaces (g : Geometry) (k c : ℕ) (w y : List ℕ) : Type 0 where
 -- what n places of the list hold, from place p on
 abbrev pub placed : ℕ → List ℕ → ℕ → ℕ → List Entry
 placed n w h p = table n p (entryIn w h)
+
+-- the words w with the three words of an entry from word b on
+abbrev pub put3 : List ℕ → ℕ → ℕ → ℕ → ℕ → List ℕ
+put3 w b a o c = set (set (set w b a) (b + 1) o) (b + 2) c
 
 -- the words v are the words w with none for those from i on, below k
 pub record Blanked (i k : ℕ) (w v : List ℕ) : Type 0 where
