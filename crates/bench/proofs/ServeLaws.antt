@@ -7,7 +7,7 @@ use Prim.Native.Nat.{ℕ, ◌+◌, ◌≤◌}
 use native.Mathlib.Omega.{arith}
 use lib.ListN.{length, take, drop}
 use lib.Seq.{length-take-le, take_at}
-use borrow.Author.Tests.{eq-eqb, not_true}
+use borrow.Author.Tests.{eq-eqb, not-true}
 use Rattle.lines.specs.MeasureLines.{measures_line}
 use Rattle.lines.specs.RequestLines.{request_line}
 use Rattle.lines.specs.AnswerLines.{answer_line, format_line}
@@ -93,7 +93,7 @@ module _ {g : Geometry} {a l t : ℕ} {array log list pa pl pt : List ℕ} (P : 
       → lent_parts r' (pa ++ drop a array) (pl ++ drop l log) (pt ++ drop t list) ≡ formatted g
   unfolding format_leaves format_code row choose fits formatted
   formatted_in r r' e f p =
-      let bad : bad_measures g ≡ false = not_true (bad_measures g) (and_left (not (bad_measures g)) _ f) in
+      let bad : bad_measures g ≡ false = not-true (bad_measures g) (and_left (not (bad_measures g)) _ f) in
       let is : format_leaves (lent r (take a array) (take l log) (take t list)) ≡ formatted g = rw e (simp (bad, fine-lengths)) in
       let made : lent r' pa pl pt ≡ formatted g = p ∙ is in
       left_back r' (ap (λ (h : Lent). h.shelf.geometry) made) ∙ made

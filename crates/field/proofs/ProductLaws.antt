@@ -178,8 +178,8 @@ pow2_round n =
     sym (pow2_add n 255) ∙ ap (times (pow2 n)) (pow2_255 ∙ sym pow2_zero) ∙ pow2_add n 0 ∙ ap pow2 (add-zero n)
 
 -- the inverse of 2 to the power n
-pub pow2-inverse : (n : ℕ) → n ≤ 255 → times (pow2 (255 - n)) (pow2 n) ≡ 1
-pow2-inverse n h = pow2_add (255 - n) n ∙ ap pow2 (sub-add_cancel h) ∙ pow2_255
+pub pow2_inverse : (n : ℕ) → n ≤ 255 → times (pow2 (255 - n)) (pow2 n) ≡ 1
+pow2_inverse n h = pow2_add (255 - n) n ∙ ap pow2 (sub-add_cancel h) ∙ pow2_255
 
 pub pow2_rounds : (k n : ℕ) → pow2 (n + k * 255) ≡ pow2 n
 pow2_rounds zero n = ap pow2 (ap (λ (x : ℕ). n + x) (zero-mul 255) ∙ add-zero n)
@@ -210,7 +210,7 @@ times_inverse a p h =
     let l = logarithms_hold a p h in
     let le : get_or logarithms a 0 ≤ 255 = omega (arith, l.0) in
     ap (λ (x : ℕ). times (inverse x) x) (sym l.1)
-    ∙ ap (λ (x : ℕ). times x (pow2 (get_or logarithms a 0))) (inverse-pow (get_or logarithms a 0) le) ∙ pow2-inverse (get_or logarithms a 0) le
+    ∙ ap (λ (x : ℕ). times x (pow2 (get_or logarithms a 0))) (inverse-pow (get_or logarithms a 0) le) ∙ pow2_inverse (get_or logarithms a 0) le
 
 raised_byte : (n a : ℕ) → a < 256 → raised n a < 256
 unfolding raised
@@ -236,7 +236,7 @@ pub pow2_positive : (n : ℕ) → n ≤ 255 → 0 < pow2 n
 pow2_positive n h = go (pow2 n) refl
   where
     go : (r : ℕ) → pow2 n ≡ r → 0 < r
-    go zero e = let z : ◌≡◌ {A = ℕ} 0 1 = sym (times_zero_r (pow2 (255 - n))) ∙ ap (times (pow2 (255 - n))) (sym e) ∙ pow2-inverse n h in absurd (omega arith)
+    go zero e = let z : ◌≡◌ {A = ℕ} 0 1 = sym (times_zero_r (pow2 (255 - n))) ∙ ap (times (pow2 (255 - n))) (sym e) ∙ pow2_inverse n h in absurd (omega arith)
     go (suc r) e = zero-lt-suc r
 
 pub pow2_inj : (n m : ℕ) → n < 255 → m < 255 → pow2 n ≡ pow2 m → n ≡ m

@@ -35,13 +35,13 @@ unfolding kept_from
 kept_byte s x t e = ap (λ (b : Bool). elim b as (λ _. List ℕ) [ true ↦ kept_from true t | false ↦ x ∷ kept_from (eqb x 32) t ]) e
 
 -- a byte alone
-kept_one : (s : Bool) (x : ℕ) → kept_from s (x ∷ []) ≡ x ∷ []
+kept-one : (s : Bool) (x : ℕ) → kept_from s (x ∷ []) ≡ x ∷ []
 unfolding kept_from on_digit
-kept_one s x = kept_byte s x [] (simp (and_false, and_false))
+kept-one s x = kept_byte s x [] (simp (and_false, and_false))
 
 -- of a byte or more, a byte or more is kept
 kept-some : (s : Bool) (x : ℕ) (t : List ℕ) → 0 < length (kept_from s (x ∷ t))
-kept-some s x [] = rw (kept_one s x) (omega arith)
+kept-some s x [] = rw (kept-one s x) (omega arith)
 kept-some s x (y ∷ t) =
     let more : 0 < length (kept_from true (y ∷ t)) = kept-some true y t in
     ⊎_elim
@@ -77,15 +77,15 @@ unfolding next last_zero on_digit
 next_one s y x =
     let turned : (is_digit x && (s && eqb y 48)) ≡ drops s y (x ∷ []) = and_comm (is_digit x) (s && eqb y 48) ∙ and_assoc s (eqb y 48) (is_digit x) in
     ⊎_elim
-    (λ (e : drops s y (x ∷ []) ≡ true). kept-drop s y (x ∷ []) e ∙ kept_one true x ∙ sym (simp (turned ∙ e)))
-    (λ (e : drops s y (x ∷ []) ≡ false). kept_byte s y (x ∷ []) e ∙ ap (λ (k : List ℕ). y ∷ k) (kept_one (eqb y 32) x) ∙ sym (simp (turned ∙ e)))
+    (λ (e : drops s y (x ∷ []) ≡ true). kept-drop s y (x ∷ []) e ∙ kept-one true x ∙ sym (simp (turned ∙ e)))
+    (λ (e : drops s y (x ∷ []) ≡ false). kept_byte s y (x ∷ []) e ∙ ap (λ (k : List ℕ). y ∷ k) (kept-one (eqb y 32) x) ∙ sym (simp (turned ∙ e)))
     (either_way (drops s y (x ∷ [])))
 
 -- what is kept of a text with x behind it
 kept_next : (s : Bool) (t : List ℕ) (x : ℕ) → kept_from s (t ++ (x ∷ [])) ≡ next s (kept_from s t) x
 unfolding kept_from next last_zero on_digit
-kept_next s [] x = kept_one s x ∙ sym (simp and_false)
-kept_next s (y ∷ []) x = next_one s y x ∙ ap (λ (k : List ℕ). next s k x) (sym (kept_one s y))
+kept_next s [] x = kept-one s x ∙ sym (simp and_false)
+kept_next s (y ∷ []) x = next_one s y x ∙ ap (λ (k : List ℕ). next s k x) (sym (kept-one s y))
 kept_next s (y ∷ z ∷ t) x =
     let dropped : kept_from true ((z ∷ t) ++ (x ∷ [])) ≡ next true (kept_from true (z ∷ t)) x = kept_next true (z ∷ t) x in
     let stays : kept_from (eqb y 32) ((z ∷ t) ++ (x ∷ [])) ≡ next (eqb y 32) (kept_from (eqb y 32) (z ∷ t)) x = kept_next (eqb y 32) (z ∷ t) x in

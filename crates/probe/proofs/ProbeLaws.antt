@@ -13,7 +13,7 @@ use Rattle.stripe.specs.Parity.{pick}
 use Rattle.stripe.specs.Places.{place, parity_made_all}
 use Rattle.probe.specs.Probe.{bad_shape, all_code, all_buffer}
 use Rattle.stripe.specs.Calls.{bad_measures}
-use Rattle.stripe.proofs.CallLaws.{measures_ok, row_hit, row_pass, row_zero, accepted-done, accepted-kept}
+use Rattle.stripe.proofs.CallLaws.{measures_ok, row_hit, row_pass, row_zero, accepted_done, accepted_kept}
 use Rattle.stripe.proofs.Sums.{either_false}
 
 module _ (d k s b : ℕ) (e : bad_shape d k s b ≡ false) where
@@ -59,8 +59,8 @@ module _ (d k s b n : ℕ) where
 
 pub all_done : (d k s b code : ℕ) (l n : List ℕ) → code ≡ all_code d k s b (length l) → code ≡ 0 → n ≡ parity_made_all s (place 0 d k s) d k b l → n ≡ all_buffer d k s b l
 unfolding all_buffer
-all_done d k s b code l n e z en = en ∙ sym (accepted-done (all_code d k s b (length l)) (parity_made_all s (place 0 d k s) d k b l) l (sym e ∙ z))
+all_done d k s b code l n e z en = en ∙ sym (accepted_done (all_code d k s b (length l)) (parity_made_all s (place 0 d k s) d k b l) l (sym e ∙ z))
 
 pub all-kept : (d k s b code : ℕ) (l : List ℕ) → code ≡ all_code d k s b (length l) → (code ≡ 0 → ⊥) → l ≡ all_buffer d k s b l
 unfolding all_buffer
-all-kept d k s b code l e ne = sym (accepted-kept (all_code d k s b (length l)) (parity_made_all s (place 0 d k s) d k b l) l (λ z. ne (e ∙ z)))
+all-kept d k s b code l e ne = sym (accepted_kept (all_code d k s b (length l)) (parity_made_all s (place 0 d k s) d k b l) l (λ z. ne (e ∙ z)))

@@ -37,19 +37,19 @@ failed-mode true n m e = go (eqb n 0)
     go false = refl
 failed-mode false n m e = sym e
 
-not_one : (u : Bool) → ◌≡◌ {A = ℕ} (choose u 0 2) 1 → ⊥
+not-one : (u : Bool) → ◌≡◌ {A = ℕ} (choose u 0 2) 1 → ⊥
 unfolding choose
-not_one true e = omega arith
-not_one false e = omega arith
+not-one true e = omega arith
+not-one false e = omega arith
 
 -- still in mode 1: the log, member l, has not failed
-failed_one : (j l m n : ℕ) (f : ℕ → Bool) → (m ≡ 1 → f l ≡ false) → choose (eqb j l && eqb m 1) (choose (eqb n 0) 0 2) m ≡ 1
+failed-one : (j l m n : ℕ) (f : ℕ → Bool) → (m ≡ 1 → f l ≡ false) → choose (eqb j l && eqb m 1) (choose (eqb n 0) 0 2) m ≡ 1
     → set_at j true f l ≡ false
-failed_one j l m n f one e =
+failed-one j l m n f one e =
     cases (eqb j l)
     (λ a.
     cases (eqb m 1)
-    (λ c. absurd (not_one (eqb n 0) (sym (choose_true (eqb j l && eqb m 1) (choose (eqb n 0) 0 2) m (ap₂ ◌&&◌ a c)) ∙ e)))
+    (λ c. absurd (not-one (eqb n 0) (sym (choose_true (eqb j l && eqb m 1) (choose (eqb n 0) 0 2) m (ap₂ ◌&&◌ a c)) ∙ e)))
     (λ c. absurd (eqb-false m 1 c (sym (choose_false (eqb j l && eqb m 1) (choose (eqb n 0) 0 2) m (ap₂ ◌&&◌ a c)) ∙ e))))
     (λ a.
     set_at_other j true f l (λ h. eqb-false j l a (sym h))
@@ -86,9 +86,9 @@ stays_clear j f i e = false_is (set_at j false f i) (λ t. clash (cleared j f i 
 -- ---- the calls
 
 -- with nothing listed, mode 2 is over at once
-settled-none : (g : Geometry) (s : State) → marks_in g (listed s.log) ≡ 0 → s.log.next ≡ 0 → settled g (in_mode s 2) ≡ in_mode s 0
+settled_none : (g : Geometry) (s : State) → marks_in g (listed s.log) ≡ 0 → s.log.next ≡ 0 → settled g (in_mode s 2) ≡ in_mode s 0
 unfolding settled
-settled-none g s z e =
+settled_none g s z e =
     λ i. record {
       disk = s.disk;
       parity = s.parity;
@@ -167,7 +167,7 @@ module _ (g : Geometry) (s : State) (b : Book) (A : Agrees g s b) where
                     parity = λ x p hx hp f. N.parity x p hx hp (before (member_at g x (parity_role g p)) f);
                     whole = N.whole;
                     few = most;
-                    one = failed_one j (log_member g) s.mode marks s.failed N.one;
+                    one = failed-one j (log_member g) s.mode marks s.failed N.one;
                   };
               valid =
                   record {
@@ -280,10 +280,10 @@ module _ (g : Geometry) (s : State) (b : Book) (A : Agrees g s b) where
 
   -- ---- new log
 
-  pub new_log-keeps : (k : Reported) → Recalled g s.failed b.held N.orig k → code g new_log s ≡ 0
+  pub new_log_keeps : (k : Reported) → Recalled g s.failed b.held N.orig k → code g new_log s ≡ 0
       → Invariant g (work g new_log s) (book_work g new_log b) k
   unfolding work book_work
-  new_log-keeps k R z =
+  new_log_keeps k R z =
       record {
         agrees =
             record {
@@ -341,10 +341,10 @@ module _ (g : Geometry) (s : State) (b : Book) (A : Agrees g s b) where
   unmarked f = record { held = b.held; failed = f; state = closed g (record { marks = λ _ _. false; used = b.state.used; mode = 0 }) }
 
   -- disks that hold what the book holds, with parity made of them in all stripes
-  remade_keeps : (disk : ℕ → ℕ → List ℕ) → ((x i : ℕ) → x < g.s → i < g.d → disk x i ≡ b.held x i)
+  remade-keeps : (disk : ℕ → ℕ → List ℕ) → ((x i : ℕ) → x < g.s → i < g.d → disk x i ≡ b.held x i)
       → (f : ℕ → Bool) → count (all_members g) f ≤ g.parities → ((i : ℕ) → all_members g ≤ i → f i ≡ false) → Agrees g (remade g s disk f) (unmarked f)
   unfolding remade closed is_some
-  remade_keeps disk e f c top =
+  remade-keeps disk e f c top =
       record {
         near =
             record {
@@ -378,13 +378,13 @@ module _ (g : Geometry) (s : State) (b : Book) (A : Agrees g s b) where
   unfolding work book_work
   full_resync-keeps z =
       subst (λ (f : ℕ → Bool). Agrees g (remade g s s.disk s.failed) (unmarked f)) N.failed
-      (remade_keeps s.disk (all_sound N (full_resync_passed g s z)) s.failed N.few A.valid.top)
+      (remade-keeps s.disk (all_sound N (full_resync_passed g s z)) s.failed N.few A.valid.top)
 
   -- ---- resync
 
-  pub resync_keeps : code g resync s ≡ 0 → Agrees g (work g resync s) (book_work g resync b)
+  pub resync-keeps : code g resync s ≡ 0 → Agrees g (work g resync s) (book_work g resync b)
   unfolding work book_work resynced
-  resync_keeps z = cases (any g.s (stale g (listed s.log))) some_stale none_stale
+  resync-keeps z = cases (any g.s (stale g (listed s.log))) some_stale none_stale
     where
       low : ℕ
       low = lowest_stale g (listed s.log)
@@ -445,7 +445,7 @@ module _ (g : Geometry) (s : State) (b : Book) (A : Agrees g s b) where
           λ x i hx hi. N.marks x i hx hi ∙ sym (set_row_other low' (λ _. false) b.state.marks x i (λ e. omega (arith, same, last))) in
           let M : Agrees g (settled g (in_mode s 2)) (without low') = settled_agrees g (in_mode s 2) _ (near2 _ kept) valid2 in
           rw (choose_false (ltb low g.s) (made g (in_mode s 2) low (s.disk low)) (in_mode s 0) (le-ltb low g.s (omega (arith, last))))
-          (subst (λ (t : State). Agrees g t (without low')) (settled-none g s no (A.idle no).0) M)
+          (subst (λ (t : State). Agrees g t (without low')) (settled_none g s no (A.idle no).0) M)
 
 -- ---- rebuild
 

@@ -170,15 +170,15 @@ module _ (g : Geometry) (s : State) (t : ℕ) (w : ℕ → Bool) (v : ℕ → Li
   ori_appended-next : (ori_appended g s t w).next ≡ s.log.next + count g.d pr
   ori_appended-next = append-next pr (s.disk t) before g.d
 
-  pub cur_appended-next : (cur_appended g s t w v).next ≡ s.log.next + records_for g.d w (listed s.log t)
-  cur_appended-next = omega (arith, append-next w v between g.d, ori_appended-next)
+  pub cur_appended_next : (cur_appended g s t w v).next ≡ s.log.next + records_for g.d w (listed s.log t)
+  cur_appended_next = omega (arith, append-next w v between g.d, ori_appended-next)
 
   -- a record of the originals, and one in use before, stay in use
   ori_appended-kept : (r : ℕ) → r < (ori_appended g s t w).next → (r < (cur_appended g s t w v).next) × ((cur_appended g s t w v).value r ≡ (ori_appended g s t w).value r)
   ori_appended-kept r h = (omega (arith, h, append-next w v between g.d), append_old w v between g.d r h)
 
-  pub cur_appended-kept : (r : ℕ) → r < s.log.next → (r < (cur_appended g s t w v).next) × ((cur_appended g s t w v).value r ≡ s.log.value r)
-  cur_appended-kept r h =
+  pub cur_appended_kept : (r : ℕ) → r < s.log.next → (r < (cur_appended g s t w v).next) × ((cur_appended g s t w v).value r ≡ s.log.value r)
+  cur_appended_kept r h =
       let k = ori_appended-kept r (omega (arith, h, ori_appended-next)) in (k.0, k.1 ∙ append_old pr (s.disk t) before g.d r h)
 
   -- an Ori is a pre_read_lem block's, or from before
@@ -299,7 +299,7 @@ module _ (g : Geometry) (s : State) (b : Book) (A : Agrees g s b) (ok : array_fa
       after = record { value = C.value; next = C.next; ori = set_at t O.noted s.log.ori; cur = set_at t C.noted s.log.cur }
 
       next : C.next ≡ used_then g b.state t w
-      next = cur_appended-next g s t w v ∙ records_same g s b N t ht w
+      next = cur_appended_next g s t w v ∙ records_same g s b N t ht w
 
       sound-log : log_failed g s.failed ≡ false
       sound-log = N.one m1
@@ -316,7 +316,7 @@ module _ (g : Geometry) (s : State) (b : Book) (A : Agrees g s b) (ok : array_fa
 
       -- a record from before
       old : (r : ℕ) (u : List ℕ) → (r < s.log.next) × (log_failed g s.failed ≡ false → s.log.value r ≡ u) → (r < C.next) × (C.value r ≡ u)
-      old r u a = let k = cur_appended-kept g s t w v r a.0 in (k.0, k.1 ∙ a.1 sound-log)
+      old r u a = let k = cur_appended_kept g s t w v r a.0 in (k.0, k.1 ∙ a.1 sound-log)
 
       plain : (x i : ℕ) → x < g.s → i < g.d → after.cur x i ≡ none → N.orig x i ≡ held x i
       plain x i hx hi e =

@@ -310,9 +310,9 @@ pub remade_record : (g : Geometry) (s : State) (disk : ℕ → ℕ → List ℕ)
 unfolding remade is_some
 remade_record g s disk f = λ i. record { geometry = g; mode = 0; next = 0; listed = sym (no_marks_lem g) i; failed = flags_of f }
 
-pub remade_log : (g : Geometry) (s : State) (disk : ℕ → ℕ → List ℕ) (f : ℕ → Bool) (n : List ℕ) → n ≡ log_of g s → n ≡ log_of g (remade g s disk f)
+pub remade-log : (g : Geometry) (s : State) (disk : ℕ → ℕ → List ℕ) (f : ℕ → Bool) (n : List ℕ) → n ≡ log_of g s → n ≡ log_of g (remade g s disk f)
 unfolding remade log_of
-remade_log g s disk f n e = e
+remade-log g s disk f n e = e
 
 -- All stripes with the data blocks of disk made, all of it: the array a has the blocks already.
 pub remade_leaves : (g : Geometry) (s : State) (disk : ℕ → ℕ → List ℕ) (f : ℕ → Bool) (a n : List ℕ) → InRange g → Filled g disk a → n ≡ log_of g s
@@ -320,4 +320,4 @@ pub remade_leaves : (g : Geometry) (s : State) (disk : ℕ → ℕ → List ℕ)
     (lent (record { geometry = g; mode = 0; next = 0; listed = 0; failed = flags_of f }) (parity_made_all g.s (place_at g) g.d g.parities g.b a) n (replicate (list_length g) 255))
 remade_leaves g s disk f a n Y F en =
     leaves_by g (remade g s disk f) (record { geometry = g; mode = 0; next = 0; listed = 0; failed = flags_of f }) (parity_made_all g.s (place_at g) g.d g.parities g.b a) n
-    (replicate (list_length g) 255) Y (remade_record g s disk f) (remade_reads g disk a F s f) (remade_log g s disk f n en) (remade_says g s disk f Y) (full_bytes (list_length g))
+    (replicate (list_length g) 255) Y (remade_record g s disk f) (remade_reads g disk a F s f) (remade-log g s disk f n en) (remade_says g s disk f Y) (full_bytes (list_length g))

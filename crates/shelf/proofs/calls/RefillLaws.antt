@@ -100,13 +100,13 @@ stripe-parity h x a o t e eo =
     eo ∙ ap (λ (z : List ℕ). parity_made (place_at h.shelf.geometry x) h.shelf.geometry.d h.shelf.geometry.parities h.shelf.geometry.b z) e
     ∙ sym (choose_true (parity_failed_at h.shelf x) _ (filled_to h x h.shelf.geometry.d) t)
 
-pub rebuilt-start : (h : Lent) → h.array ≡ rebuilt_to h 0
+pub rebuilt_start : (h : Lent) → h.array ≡ rebuilt_to h 0
 unfolding rebuilt_to
-rebuilt-start h = refl
+rebuilt_start h = refl
 
-pub rebuilt-more : (h : Lent) (x : ℕ) (a o : List ℕ) → a ≡ rebuilt_to h x → o ≡ stripe_rebuilt (with_array h a) x → o ≡ rebuilt_to h (x + 1)
+pub rebuilt_more : (h : Lent) (x : ℕ) (a o : List ℕ) → a ≡ rebuilt_to h x → o ≡ stripe_rebuilt (with_array h a) x → o ≡ rebuilt_to h (x + 1)
 unfolding rebuilt_to
-rebuilt-more h x a o ea eo =
+rebuilt_more h x a o ea eo =
     let q : suc x ≡ x + 1 = omega arith in
     eo ∙ ap (λ (z : List ℕ). stripe_rebuilt (with_array h z) x) ea ∙ ap (rebuilt_to h) q
 
@@ -498,12 +498,12 @@ module _ (r : Shelf) (a n l : List ℕ) (two : count (r.geometry.d + r.geometry.
           left = λ y i hy hs hi. made-here.others y i hs hi (λ z. omega arith) ∙ U.left y i (omega arith) hs hi;
         }
 
-  rebuilt-is : (k : ℕ) → k ≤ r.geometry.s → RebuiltUpTo r.geometry s after k (rebuilt_to (lent r a n l) k)
+  rebuilt_is : (k : ℕ) → k ≤ r.geometry.s → RebuiltUpTo r.geometry s after k (rebuilt_to (lent r a n l) k)
   unfolding rebuilt_to
-  rebuilt-is zero h = record { long = R.array; done = λ y i hy hs hi. absurd (omega arith); left = λ y i hy hs hi. sym (reads_here r a n l y i hi) }
-  rebuilt-is (suc k) h = next-stripe k (omega arith) (rebuilt_to (lent r a n l) k) (rebuilt-is k (omega arith))
+  rebuilt_is zero h = record { long = R.array; done = λ y i hy hs hi. absurd (omega arith); left = λ y i hy hs hi. sym (reads_here r a n l y i hi) }
+  rebuilt_is (suc k) h = next-stripe k (omega arith) (rebuilt_to (lent r a n l) k) (rebuilt_is k (omega arith))
 
   pub rebuilt_reads : HoldsArray r.geometry after (rebuilt_to (lent r a n l) r.geometry.s)
   rebuilt_reads =
-      let U = rebuilt-is r.geometry.s (omega arith) in
+      let U = rebuilt_is r.geometry.s (omega arith) in
       record { long = U.long; blocks = λ x i hx hi. sym (U.done x i hx hx hi) }

@@ -132,8 +132,8 @@ module _ (g : Geometry) (a n : ℕ) where
 pub in_range-stripe : (d s a : ℕ) → 0 < d → a < d * s → a / d < s
 in_range-stripe d s a pos h = let c : d * s ≡ s * d = mul_comm d s in (div-lt_iff_lt-mul pos).1 (omega arith)
 
-pub in_range-index : (d a : ℕ) → 0 < d → a % d < d
-in_range-index d a pos = mod-lt a pos
+pub in_range_index : (d a : ℕ) → 0 < d → a % d < d
+in_range_index d a pos = mod-lt a pos
 
 module _ (r : Shelf) (l : List ℕ) (R : ListReady r l) where
   stale_is : (x : ℕ) → stale_in (words l) r.geometry x ≡ stale r.geometry (listed_by r.geometry l) x

@@ -137,13 +137,13 @@ module _ (g : Geometry) (hpos : 0 < g.h) (small : g.e ≤ 4096) (t : ℕ → Ent
   abbrev one : List ℕ
   one = encode g (table n 0 t)
 
-  length_one : length one ≡ g.h + 4 * g.e
+  length-one : length one ≡ g.h + 4 * g.e
   unfolding encode
-  length_one = length-made g.h g.e hpos small t n 0
+  length-one = length-made g.h g.e hpos small t n 0
 
-  pub one_chained : Chained slot g.h n 0 0 one
+  pub one-chained : Chained slot g.h n 0 0 one
   unfolding encode
-  one_chained =
+  one-chained =
       let z : 0 + n ≡ n = zero-add n in
       record {
         heads = λ s l. subst (λ (m : ℕ). Leads slot s 0 m 0 0 (get_or one s 0)) z (made-heads g.h g.e hpos small t n 0 (omega arith) s l);
@@ -168,11 +168,11 @@ module _ (g : Geometry) (hpos : 0 < g.h) (small : g.e ≤ 4096) (t : ℕ → Ent
 
   pub told : (w : List ℕ) → length w ≡ g.h + 4 * g.e → ((q : ℕ) → q < n → entry_in w g.h q ≡ t q) → Chained slot g.h n 0 0 w
       → ((i : ℕ) → g.h + 4 * n ≤ i → i < g.h + 4 * g.e → get_or w i 0 ≡ none_word) → w ≡ encode g (table n 0 t)
-  told w lw es C un = ext_get_or 0 w one (lw ∙ sym length_one) word
+  told w lw es C un = ext_get_or 0 w one (lw ∙ sym length-one) word
     where
       word : (i : ℕ) → i < length w → get_or w i 0 ≡ get_or one i 0
       word i l = elim (dec_lt i g.h) [
-        | yes o ↦ lead_same slot i 0 n (get_or w i 0) (get_or one i 0) (omega arith) (C.heads i o) (one_chained.heads i o)
+        | yes o ↦ lead_same slot i 0 n (get_or w i 0) (get_or one i 0) (omega arith) (C.heads i o) (one-chained.heads i o)
         | no o ↦
             let q : ℕ = (i - g.h) / 4 in
             let j : ℕ = (i - g.h) % 4 in
@@ -185,7 +185,7 @@ module _ (g : Geometry) (hpos : 0 < g.h) (small : g.e ≤ 4096) (t : ℕ → Ent
                   stands_same w one g.h 0 (table n 0 t) q (stands_fun w n 0 (λ k a b. es k (omega arith))) one_stands (omega arith)
                   (let y : length (table n 0 t) ≡ n = length-table n 0 t in omega arith) in
                   place_words w one g.h q (ap (λ (x : Entry). x.address) en) (ap (λ (x : Entry). x.ori) en) (ap (λ (x : Entry). x.cur) en)
-                  (lead_same slot (slot q) (q + 1) n (next_at w g.h q) (next_at one g.h q) (omega arith) (C.nexts q z (λ x. x)) (one_chained.nexts q z (λ x. x))) j jl
+                  (lead_same slot (slot q) (q + 1) n (next_at w g.h q) (next_at one g.h q) (omega arith) (C.nexts q z (λ x. x)) (one-chained.nexts q z (λ x. x))) j jl
               | no z ↦ un (g.h + 4 * q + j) (omega arith) (omega arith) ∙ sym (one_none q j (omega arith) ql jl)
             ])
       ]
@@ -393,7 +393,7 @@ module _ (w : List ℕ) (g : Geometry) (next n : ℕ) (hpos : 0 < g.h) (dpos : 0
   words_are = list-is w g next n hpos dpos small v ∙ ap (encode g) entries_are
 
   pub chained : Chained F g.h n 0 0 w
-  chained = subst (λ (u : List ℕ). Chained F g.h n 0 0 u) (sym words_are) (one_chained g hpos small (entry_in w g.h) n fits)
+  chained = subst (λ (u : List ℕ). Chained F g.h n 0 0 u) (sym words_are) (one-chained g hpos small (entry_in w g.h) n fits)
 
   pub upward : (q : ℕ) → q < n → q < next_at w g.h q
   upward q o =

@@ -16,16 +16,15 @@ use Rattle.shelf.specs.Members.{array_members, log_member}
 use Rattle.shelf.specs.State.{State, listed, marks_in}
 use Rattle.shelf.specs.Status.{Call, start, fail, put_back, write, read, fetch, resync, rebuild, new_log, full_resync, array_failed}
 use Rattle.shelf.specs.Calls.{settled, made, remade, logs, overwritten, logged, write_stripe, written, given, write_to, resync_stripe, resynced, rebuilt, mode_without, work}
-use Rattle.shelf.specs.Lent.{Lent, flag, flag_at, member_block, state_of, tries_list, answer_of, flags_of, array_of, Answered}
+use Rattle.shelf.specs.Lent.{Lent, flag, flag_at, member_block, state_of, tries_list, number_of, flags_of, array_of, Answered}
 use Rattle.shelf.specs.Sequence.{Reported, reported_after, Returned, Kept}
 use Rattle.shelf.specs.declared.record.Geometry.{Geometry}
 use Rattle.shelf.specs.declared.record.Shelf.{Shelf}
 use Rattle.shelf.proofs.general.CountLaws.{any_none, set_at-here, set_at-same, set_at_other}
 use Rattle.shelf.proofs.general.TestLaws.{clash, choose_true, choose_false}
-use Rattle.shelf.proofs.numbers.AnswerLaws.{accepted_number}
 use Rattle.shelf.proofs.numbers.CodeLaws.{put-back_bounds}
 use Rattle.shelf.proofs.lent.LayoutLaws.{flags-length, flag-back}
-use Rattle.shelf.proofs.lent.LeavesLaws.{turned, tried_passed, accepted-code, array-here}
+use Rattle.shelf.proofs.lent.LeavesLaws.{turned, tried_passed, accepted_code, array-here}
 use Rattle.shelf.proofs.agreement.StatusLaws.{write_passed, resync_passed, full_resync_passed}
 use Rattle.shelf.proofs.agreement.CallLaws.{cleared}
 use Rattle.shelf.proofs.agreement.Agreement.{AsReported}
@@ -105,11 +104,11 @@ write-flags g (suc c) a n v s =
 
 module _ (h : Lent) (k : Reported) (kept : Kept h.shelf.geometry h k) where
   -- an accepted put-back has its premise
-  pub kept_returned : (c : Call) (n : ℕ) → n ≡ answer_of h c → Returned h.shelf.geometry h c n k
+  pub kept_returned : (c : Call) (n : ℕ) → n ≡ number_of h.shelf (length h.array) (length h.log) h.list c → Returned h.shelf.geometry h c n k
   kept_returned start n e = tt
   kept_returned (fail j) n e = tt
   kept_returned (put_back j) n e = λ z x hx.
-      let o = (put-back_bounds h.shelf (length h.array) (length h.log) h.list j (accepted_number h (put_back j) (sym z ∙ e))).1 in
+      let o = (put-back_bounds h.shelf (length h.array) (length h.log) h.list j (sym z ∙ e)).1 in
       kept j x o.0 hx o.1
   kept_returned (write a m v) n e = tt
   kept_returned (read a m len) n e = tt
@@ -128,7 +127,7 @@ module _ (h : Lent) (k : Reported) (kept : Kept h.shelf.geometry h k) where
     array_stays : (mode : ℕ) (f : ℕ → Bool) → work h.shelf.geometry c (state_of h) ≡ turned (state_of h) mode f → tries_list c ≡ true → h'.array ≡ h.array
     array_stays mode f same three =
         (P.done refl).array ∙ ap (array_of h.shelf.geometry) same
-        ∙ sym (array-here h.shelf h.array h.log h.list (tried_passed h.shelf h.array h.log h.list c three (accepted_number h c P.number)) mode f)
+        ∙ sym (array-here h.shelf h.array h.log h.list (tried_passed h.shelf h.array h.log h.list c three P.number) mode f)
 
     -- with none failed before and the flags as they were, none has failed
     none-failed : (work h.shelf.geometry c (state_of h)).failed ≡ flag_at h.shelf → array_failed h.shelf.geometry (flag_at h.shelf) ≡ false
@@ -144,10 +143,10 @@ module _ (h : Lent) (k : Reported) (kept : Kept h.shelf.geometry h k) where
         ∙ kept m x hm hx (fewer m (ap (λ (s : State). s.failed m) (sym same) ∙ failed_then m e))
 
   -- an accepted call leaves it so
-  kept-accepted : (c : Call) (h' : Lent) → Answered h c 0 h' → Kept h.shelf.geometry h' (reported_after h.shelf.geometry h c 0 k)
+  kept_accepted : (c : Call) (h' : Lent) → Answered h c 0 h' → Kept h.shelf.geometry h' (reported_after h.shelf.geometry h c 0 k)
   unfolding reported_after choose work state_of tries_list resynced made settled remade rebuilt
-  kept-accepted start h' P = kept_still start h' P 1 (flag_at h.shelf) refl refl (λ m e. e)
-  kept-accepted (fail j) h' P =
+  kept_accepted start h' P = kept_still start h' P 1 (flag_at h.shelf) refl refl (λ m e. e)
+  kept_accepted (fail j) h' P =
       let g = h.shelf.geometry in
       let stays = array_stays (fail j) h' P (mode_without g j (marks_in g (listed (state_of h).log)) h.shelf.mode) (set_at j true (flag_at h.shelf)) refl refl in
       λ m x hm hx e.
@@ -158,28 +157,28 @@ module _ (h : Lent) (k : Reported) (kept : Kept h.shelf.geometry h k) where
             kept m x hm hx (sym (set_at_other j true (flag_at h.shelf) m q) ∙ failed_then (fail j) h' P m e)
             ∙ ap (λ (t : ℕ → List ℕ). t x) (sym (set_at_other j (member_block g h.array j) k m q))
       ]
-  kept-accepted (put_back j) h' P =
+  kept_accepted (put_back j) h' P =
       kept_still (put_back j) h' P h.shelf.mode (set_at j false (flag_at h.shelf)) refl refl (cleared j (flag_at h.shelf))
-  kept-accepted (write a n v) h' P =
+  kept_accepted (write a n v) h' P =
       none-failed (write a n v) h' P (write-flags h.shelf.geometry h.shelf.geometry.s a n v (state_of h))
-      (write_passed h.shelf.geometry (state_of h) a n v (accepted-code h (write a n v) (accepted_number h (write a n v) P.number))).1 k
-  kept-accepted (read a n len) h' P = kept_still (read a n len) h' P h.shelf.mode (flag_at h.shelf) refl refl (λ m e. e)
-  kept-accepted (fetch a n len) h' P = kept_still (fetch a n len) h' P h.shelf.mode (flag_at h.shelf) refl refl (λ m e. e)
-  kept-accepted resync h' P =
+      (write_passed h.shelf.geometry (state_of h) a n v (accepted_code h (write a n v) P.number)).1 k
+  kept_accepted (read a n len) h' P = kept_still (read a n len) h' P h.shelf.mode (flag_at h.shelf) refl refl (λ m e. e)
+  kept_accepted (fetch a n len) h' P = kept_still (fetch a n len) h' P h.shelf.mode (flag_at h.shelf) refl refl (λ m e. e)
+  kept_accepted resync h' P =
       none-failed resync h' P (either_flags (ltb (resync_stripe h.shelf.geometry (state_of h)) h.shelf.geometry.s) _ _ refl refl)
-      (resync_passed h.shelf.geometry (state_of h) (accepted-code h resync (accepted_number h resync P.number))) k
-  kept-accepted rebuild h' P = λ m x hm hx e.
+      (resync_passed h.shelf.geometry (state_of h) (accepted_code h resync P.number)) k
+  kept_accepted rebuild h' P = λ m x hm hx e.
       clash (failed_then rebuild h' P m e) (choose_true (ltb m (array_members h.shelf.geometry)) false (flag_at h.shelf m) (lt-ltb m (array_members h.shelf.geometry) hm))
-  kept-accepted new_log h' P =
+  kept_accepted new_log h' P =
       let g = h.shelf.geometry in
       kept_still new_log h' P h.shelf.mode (set_at (log_member g) false (flag_at h.shelf)) refl refl (cleared (log_member g) (flag_at h.shelf))
-  kept-accepted full_resync h' P =
-      none-failed full_resync h' P refl (full_resync_passed h.shelf.geometry (state_of h) (accepted-code h full_resync (accepted_number h full_resync P.number))) k
+  kept_accepted full_resync h' P =
+      none-failed full_resync h' P refl (full_resync_passed h.shelf.geometry (state_of h) (accepted_code h full_resync P.number)) k
 
   pub kept_after : (c : Call) (n : ℕ) (h' : Lent) → Answered h c n h' → Kept h.shelf.geometry h' (reported_after h.shelf.geometry h c n k)
   kept_after c n h' P =
       elim (ℕ_discrete n 0) [
         | yes z ↦ subst (λ (i : ℕ). Kept h.shelf.geometry h' (reported_after h.shelf.geometry h c i k)) (sym z)
-            (kept-accepted c h' (subst (λ (i : ℕ). Answered h c i h') z P))
+            (kept_accepted c h' (subst (λ (i : ℕ). Answered h c i h') z P))
         | no z ↦ subst (Kept h.shelf.geometry h') (sym (unnoted h k c n z)) (subst (λ (l : Lent). Kept h.shelf.geometry l k) (sym (P.refused z)) kept)
       ]

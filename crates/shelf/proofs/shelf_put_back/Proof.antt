@@ -5,7 +5,7 @@ use mathlib.Core.Path.{◌∙◌, ◌≡◌, refl, subst, sym}
 use native.Mathlib.Omega.{arith}
 use lib.ListN.{length}
 use Rattle.shelf.specs.Lent.{Answered, lent, state_of, tries_list}
-use Rattle.shelf.specs.Calls.{work, disputes}
+use Rattle.shelf.specs.Calls.{work}
 use Rattle.shelf.specs.declared.record.Shelf.{Shelf}
 use Rattle.shelf.specs.Status.{put_back}
 use Rattle.shelf.proofs.numbers.CodeLaws.{put-back_bounds}
@@ -35,7 +35,7 @@ returns-2 c =
     let done = sym c.before.if1.false ∙ c.before.before.number_of_lem.ensures in
     subst (λ (r : Shelf). Answered (lent a.shelf a.array.now a.log.now a.list.now) (put_back a.member) 0 (lent r a.array.now a.log.now a.list.now)) (sym c.renew.ensures)
     (renewed_answered a.shelf a.array.now a.log.now a.list.now long (λ i. omega (arith, c.before.before.before.shared-slice-known3.given i)) (put_back a.member) a.member
-    (put-back_bounds a.shelf (length a.array.now) (length a.log.now) a.list.now a.member done).0 refl refl (unfold disputes in refl) done)
+    (put-back_bounds a.shelf (length a.array.now) (length a.log.now) a.list.now a.member done).0 refl refl done)
 
 pub shelf-put-back_spec : {M : Type 1} → statement M
 shelf-put-back_spec = tie.close (tie.spec number-of-requires returns renew-requires returns-2)

@@ -3,7 +3,7 @@
 use mathlib.Core.Path.{refl, sym, ap, ◌∙◌}
 use Rattle.bench.specs.Bench.{fits}
 use Rattle.bench.proofs.ServeLaws.{opens_refused, opens_made}
-use borrow.Author.Tests.{not_true, not-false}
+use borrow.Author.Tests.{not-true, not-false}
 use borrow.Author.Rules.{rules}
 use Rattle.bench.proofs.serve.open.Statement.{statement}
 use Rattle.bench.proofs.serve.open.Tie as tie
@@ -24,7 +24,7 @@ returns : tie.Need-returns
 returns c =
     let p = c.before.before.before.before.before.before.before.before.before.before.before.before.before.requires in
     let put = c.before.before.before.put-format in
-    opens_refused _ _ _ _ _ p.1 put.auto.0 (ap fits (sym c.before.before.before.before.before.before.before.geometry-of.ensures) ∙ sym c.before.before.before.before.before.before.fits2.ensures ∙ not_true _ c.before.before.before.before.before.if1.true) put.ensures refl
+    opens_refused _ _ _ _ _ p.1 put.auto.0 (ap fits (sym c.before.before.before.before.before.before.before.geometry-of.ensures) ∙ sym c.before.before.before.before.before.before.fits2.ensures ∙ not-true _ c.before.before.before.before.before.if1.true) put.ensures refl
 
 format-requires : tie.Need-format-requires
 format-requires c κs =

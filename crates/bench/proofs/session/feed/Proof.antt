@@ -6,7 +6,7 @@ use Prim.Native.Nat.{ℕ, ◌+◌, ◌*◌, ◌-◌, ◌≤◌, ◌<◌}
 use native.Mathlib.Omega.{arith}
 use lib.ListN.{length, take}
 use lib.Seq.{length-take-le}
-use borrow.Author.Tests.{not_true, not-false}
+use borrow.Author.Tests.{not-true, not-false}
 use Rattle.lines.specs.Held.{Keeps}
 use Rattle.bench.specs.Sessions.{lent_parts, ReadyAt}
 use borrow.Rule.Slice.PartMut.{same_len_mid}
@@ -63,7 +63,7 @@ returns c =
     let l = c.before.before.before.before.before.before.before.before.loop in
     let p = c.before.before.before.before.before.before.before.before.before.before.before.before.before.before.before.before.requires in
     let h = c.before.before.before.before.before.hold in
-    let open-line = not_true _ c.before.if1.true in
+    let open-line = not-true _ c.before.if1.true in
     let begun = p.1.1.0.1.1 in
     rw c.held_at.ensures
     (record {

@@ -4,7 +4,7 @@ use mathlib.Core.Path.{◌≡◌, sym, ◌∙◌}
 use Prim.Native.Nat.{◌-◌, ◌≤◌, ◌<◌}
 use native.Mathlib.Omega.{arith}
 use lib.ListN.{length, drop}
-use borrow.Author.Tests.{not_true, not-false}
+use borrow.Author.Tests.{not-true, not-false}
 use Rattle.lines.specs.Walking.{value_of}
 use Rattle.lines.proofs.FieldLaws.{value_from, value_empty, value-start, value_on, value_off, value_large, value_end, digit_range}
 use borrow.Author.Rules.{rules}
@@ -32,7 +32,7 @@ is-digit-requires c κs = search rules
 returns-2 : tie.Need-returns-2 invariant-loop decreases-loop
 returns-2 c =
     let at = c.before.before.before.before in
-    sym (sym at.loop.invariant.1 ∙ value_off _ at.loop.value at.loop.i (omega arith) (sym c.before.is_digit.ensures ∙ not_true _ c.if2.true))
+    sym (sym at.loop.invariant.1 ∙ value_off _ at.loop.value at.loop.i (omega arith) (sym c.before.is_digit.ensures ∙ not-true _ c.if2.true))
 
 mul-value : tie.Need-overflow-mul-value invariant-loop decreases-loop
 mul-value c = search rules

@@ -1,6 +1,6 @@
 -- `lines::held::last_zero` meets its contract.
 -- Assumes nothing.
-use mathlib.Core.Bool.{and_true}
+use mathlib.Core.Bool.{and-true}
 use mathlib.Core.Path.{sym, ◌∙◌}
 use native.Mathlib.Omega.{arith}
 use borrow.Author.Tests.{eq-eqb}
@@ -37,7 +37,7 @@ shared-slice-read-result c = search rules
 returns-4 : tie.Need-returns-4
 returns-4 c =
     let a = c.before.before.before.before.before.args in
-    sym (last_both a.line.now a.n (omega arith) (omega arith) ∙ simp (eq-eqb _ 48 c.before.before.if2.false, and_true))
+    sym (last_both a.line.now a.n (omega arith) (omega arith) ∙ simp (eq-eqb _ 48 c.before.before.if2.false, and-true))
 
 pub last_zero_spec : {M : Type 1} → statement M
 last_zero_spec =

@@ -3,7 +3,7 @@
 use mathlib.Core.Path.{sym}
 use native.Mathlib.Nat.{mul-le-mul}
 use native.Mathlib.Omega.{arith}
-use borrow.Author.Tests.{not_true, not-false}
+use borrow.Author.Tests.{not-true, not-false}
 use Rattle.shelf.proofs.hashlist.PlaceLaws.{range_high, range-ori, range-cur}
 use borrow.Author.Rules.{rules}
 use Rattle.shelf.proofs.list.in_range.Statement.{statement}
@@ -25,7 +25,7 @@ is-record-requires c κs = search rules
 returns-2 : tie.Need-returns-2
 returns-2 c =
     let a = c.before.before.before.before.args in
-    sym (range-ori a.g a.next a.a a.o a.c c.before.before.if1.false c.before.is-record.result c.before.is-record.ensures (not_true _ c.if2.true))
+    sym (range-ori a.g a.next a.a a.o a.c c.before.before.if1.false c.before.is-record.result c.before.is-record.ensures (not-true _ c.if2.true))
 
 is-record-requires-2 : tie.Need-is-record-requires-2
 is-record-requires-2 c κs = search rules
