@@ -1,6 +1,8 @@
 // The bench program: reads a shelf's measures and then calls from standard input, a line each, makes the calls on a shelf in memory, and
 // writes a line for each answer. What lines mean is proved in the crate `lines`, what calls do in `shelf`; `session` says of each piece of
 // the input which lines end in it and what is written of them. What a read brings, and that what is written arrives, no contract can say.
+#![tactic(auto)]
+
 mod calls;
 mod input;
 mod room;

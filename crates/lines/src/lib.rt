@@ -2,6 +2,8 @@
 // that is read is any bytes, those before its newline; words and numbers are in ASCII.
 //
 // Every function is proved, and the crate assumes nothing. It knows no shelf: what a line asks for is an enum of numbers.
+#![tactic(auto)]
+
 pub mod answers;
 mod fields;
 pub mod held;

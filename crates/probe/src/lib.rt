@@ -1,5 +1,7 @@
 // Exports for tests and benchmarks: the field's product, and parity made in a whole array. They are
 // no part of the library's interface.
+#![tactic(auto)]
+
 ghost use Rattle.std.specs.Prelude.{◌≡◌, ◌%◌, length};
 ghost use Rattle.field.specs.Field.{times};
 ghost use Rattle.probe.specs.Probe.{all_code, all_buffer, bad_shape};

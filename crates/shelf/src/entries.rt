@@ -15,14 +15,14 @@ ghost use Rattle.shelf.specs.below.Writing.{EntriesOf, is_listed, Packed, AreWor
 use super::{alter, list, place, record, words};
 
 // The log records of the originals (Ori) and of the latest values (Cur) of a stripe's d blocks, or none.
-#[derive(Drop)]
+#[derive(Clone, Copy)]
 pub struct Entries {
     pub ori: [usize; 16],
     pub cur: [usize; 16],
 }
 
 // What the list says of a block, and the first place behind it.
-#[derive(Drop)]
+#[derive(Clone, Copy)]
 pub struct Step {
     pub ori: usize,
     pub cur: usize,

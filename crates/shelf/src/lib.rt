@@ -9,6 +9,8 @@
 // their places, and `links`, which has slot heads and Next words follow. The calls that move blocks have a file each, `read`, `fetch`,
 // `write`, `resync`, `rebuild`; a write's stripe goes by its `share` of the caller's data, and one that is logged by a `plan`, `log` and
 // `copies`. The contracts cite `specs/`: `Lent.antt` has the promise of every call, `Calls.antt` what each does.
+#![tactic(auto)]
+
 mod alter;
 mod copies;
 mod entries;
@@ -38,7 +40,7 @@ use status::Request;
 
 // What a call hands back: its number, 0 where it was accepted, and the record after it.
 #[repr(C)]
-#[derive(Drop)]
+#[derive(Clone, Copy)]
 pub struct Answer {
     pub code: usize,
     pub shelf: record::Shelf,
@@ -46,7 +48,7 @@ pub struct Answer {
 
 // What resync hands back: its number, the stripe that it made (s where none was stale or the call is refused), and the record after it.
 #[repr(C)]
-#[derive(Drop)]
+#[derive(Clone, Copy)]
 pub struct Resynced {
     pub code: usize,
     pub stripe: usize,

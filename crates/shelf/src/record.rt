@@ -13,7 +13,7 @@ ghost use Rattle.shelf.specs.Lent.{flag_at, flag_from};
 // (1 to 4,096), a log of l records (1 to 65,536), a list of h hash slots (1 to 256) and e places (1 to 4,096); the layout (0
 // fixed, 1 rotating); and the number of parities (1 or 2).
 #[repr(C)]
-#[derive(Drop)]
+#[derive(Clone, Copy)]
 pub struct Geometry {
     pub d: usize,
     pub s: usize,
@@ -28,7 +28,7 @@ pub struct Geometry {
 // The record: the mode (0 normal, 1 accelerating, 2 transitional), the next free log record, the count of listed blocks, and one
 // failure flag a member.
 #[repr(C)]
-#[derive(Drop)]
+#[derive(Clone, Copy)]
 pub struct Shelf {
     pub geometry: Geometry,
     pub mode: usize,

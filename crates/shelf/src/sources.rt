@@ -15,7 +15,7 @@ use super::{entries, record, words};
 
 // Of each data block the log record that has its latest value, or none; of each role the block number of its original, over the array with
 // the log behind it, and whether the original is missing.
-#[derive(Drop)]
+#[derive(Clone, Copy)]
 pub struct Sources {
     pub latest: [usize; 16],
     pub originals: [usize; 18],

@@ -7,6 +7,8 @@
 // recovers a missing block from the others, each in the array or in a log, `blocks` copies blocks
 // by number and `places` knows where a block stands. The contracts cite `specs/`: `Parity.antt` has
 // the mathematics, `Calls.antt` what the two calls answer and leave.
+#![tactic(auto)]
+
 pub mod blocks;
 pub mod parity;
 pub mod places;
