@@ -3,7 +3,7 @@
 use mathlib.Core.Bool.{Bool, true, false, not, ◌&&◌}
 use mathlib.Core.List.{List}
 use mathlib.Core.Path.{◌≡◌, refl, sym, ap, ◌∙◌, subst}
-use Prim.Native.Nat.{ℕ, ◌+◌, ◌-◌, ◌≤◌, ◌<◌}
+use Prim.Native.Nat.{ℕ, ◌+◌, ◌≤◌, ◌<◌}
 use native.Mathlib.Decide.{ℕ_discrete}
 use native.Mathlib.Omega.{arith}
 use lib.Dec.{ltb}
@@ -19,7 +19,6 @@ use Rattle.shelf.specs.Status.{rebuild, array_failed, array_sound, withheld, dat
 use Rattle.shelf.specs.Calls.{next_left, mode_left, settled, dropped, array_cleared, rebuilt, work}
 use Rattle.shelf.specs.Words.{words}
 use Rattle.shelf.specs.below.Lists.{Measures, Lists, stale_in}
-use Rattle.shelf.specs.HashList.{valid}
 use Rattle.shelf.specs.Lent.{Lent, lent, flag_at, flags_of, state_of, listed_by, tries_list, number_of, record_of, log_of, Leaves, Answered}
 use Rattle.shelf.specs.below.Reading.{ListReady}
 use Rattle.shelf.specs.below.Rewriting.{Rewritten}

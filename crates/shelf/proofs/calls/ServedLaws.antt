@@ -11,7 +11,7 @@ use native.Mathlib.Omega.{arith}
 use native.Mathlib.Decide.{ℕ_discrete}
 use lib.Dec.{eqb, ltb}
 use lib.ListN.{length}
-use borrow.Author.Tests.{lt-ltb, le-ltb, eq-eqb, ne_eqb, ltb-true, ltb-false, eqb-true}
+use borrow.Author.Tests.{lt-ltb, eq-eqb, ne_eqb, ltb-true, ltb-false, eqb-true}
 use Rattle.stripe.proofs.Laws.{one_to_one}
 use Rattle.shelf.specs.Counting.{first}
 use Rattle.shelf.specs.Members.{InRange, array_members, member_at, place_at, address_of, wanted, other_missing}
@@ -19,7 +19,7 @@ use Rattle.shelf.specs.State.{stale}
 use Rattle.shelf.specs.Status.{array_failed, bad_address, block_rows, withheld, fetch_withheld, read_failed}
 use Rattle.shelf.specs.Calls.{or_else}
 use Rattle.shelf.specs.Words.{words}
-use Rattle.shelf.specs.HashList.{none_word, said, valid}
+use Rattle.shelf.specs.HashList.{none_word, said}
 use Rattle.shelf.specs.below.Lists.{listed_in, stale_in}
 use Rattle.shelf.specs.Lent.{lent, record_at, ori_by, listed_by, flag_at, input_rows}
 use Rattle.shelf.specs.below.Records.{failed_role}

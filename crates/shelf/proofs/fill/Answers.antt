@@ -3,7 +3,7 @@
 use borrow.Author.Fill.{fill_more}
 use mathlib.Core.List.{List, ◌++◌, append-nil}
 use mathlib.Core.Path.{◌∙◌, ◌≡◌, ap}
-use Prim.Native.Nat.{◌-◌, ℕ}
+use Prim.Native.Nat.{ℕ}
 use native.Mathlib.Omega.{arith}
 use lib.ListN.{drop, drop_of_length-le, length, length-set, replicate, set}
 use Rattle.shelf.proofs.fill.Goals as goal

@@ -12,7 +12,7 @@ use Rattle.stripe.specs.Blocks.{block, gen}
 use Rattle.stripe.proofs.Laws.{length-block, get_or-block, length-gen, get_or-gen, fits, place_lt}
 use Rattle.shelf.specs.Counting.{count, bit}
 use Rattle.shelf.specs.Members.{InRange, array_members, parity_role, blank, address_of, place_at}
-use Rattle.shelf.specs.State.{fresh_state, listed, is_some}
+use Rattle.shelf.specs.State.{fresh_state, is_some}
 use Rattle.shelf.specs.Book.{fresh_book}
 use Rattle.shelf.specs.Words.{words}
 use Rattle.shelf.specs.HashList.{none_word, Entry, said, valid, encode}

@@ -5,14 +5,14 @@ use mathlib.Core.Bool.{Bool, true, false, ◌||◌}
 use mathlib.Core.List.{List}
 use mathlib.Core.Option.{Option}
 use mathlib.Core.Path.{◌≡◌, refl, sym, ap, ap₂, ◌∙◌, subst, fun_ext}
-use Prim.Native.Nat.{ℕ, zero, ◌+◌, ◌≤◌}
+use Prim.Native.Nat.{ℕ, ◌+◌, ◌≤◌}
 use native.Mathlib.Decide.{dec_lt, ℕ_discrete}
 use native.Mathlib.Omega.{arith}
 use lib.Dec.{eqb, ltb}
 use lib.ListN.{length, get_or-eq_default}
 use borrow.Author.Tests.{ne_eqb, le-ltb, eqb-true}
 use Rattle.stripe.specs.Blocks.{block}
-use Rattle.shelf.specs.Counting.{count, any}
+use Rattle.shelf.specs.Counting.{count}
 use Rattle.shelf.specs.below.Records.{Sized}
 use Rattle.shelf.specs.Members.{InRange, log_member, all_members}
 use Rattle.shelf.specs.State.{State, is_some, listed, marks_in}

@@ -1,6 +1,5 @@
 -- `shelf::shelf_fail` meets its contract.
 -- Assumes nothing.
-use mathlib.Core.Bool.{Bool}
 use mathlib.Core.Path.{◌∙◌, ◌≡◌, subst, sym}
 use native.Mathlib.Omega.{arith}
 use lib.ListN.{length}
@@ -9,7 +8,7 @@ use Rattle.shelf.specs.declared.record.Shelf.{Shelf}
 use Rattle.shelf.specs.Status.{fail}
 use Rattle.shelf.proofs.numbers.CodeLaws.{fail_bounds}
 use Rattle.shelf.proofs.lent.LeavesLaws.{fail_answered, refused_answered}
-use borrow.Author.Rules.{length_unmapped}
+use borrow.Author.Rules.{rules}
 use Rattle.shelf.proofs.shelf_fail.Goals as goal
 
 pub returns-then-code-ne0 : goal.returns-then-code-ne0
@@ -30,7 +29,7 @@ fail-requires-clause-j_bound c =
 pub returns : goal.returns
 returns c =
     let a = c.args in
-    let long : length a.shelf.failed ≡ 19 = length_unmapped Bool a.shelf.failed 19 c.well-formed.0.1.1.1.1.1.1.0.1.0.1 in
+    let long : length a.shelf.failed ≡ 19 = search rules in
     let done = sym c.if-code-ne0.false ∙ c.number_of-code.ensures in
     subst (λ (r : Shelf). Answered (lent a.shelf a.array.now a.log.now a.list.now) (fail a.member) 0 (lent r a.array.now a.log.now a.list.now)) (sym c.fail.ensures)
     (fail_answered a.shelf a.array.now a.log.now a.list.now long (λ i. omega (arith, c.shared_slice_known-3-1.given i)) a.member (fail_bounds a.shelf (length a.array.now) (length a.log.now) a.list.now a.member done).1 done)

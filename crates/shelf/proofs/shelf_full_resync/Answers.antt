@@ -1,7 +1,5 @@
 -- `shelf::shelf_full_resync` meets its contract.
 -- Assumes nothing.
-use borrow.Author.Rules.{length_unmapped}
-use mathlib.Core.Bool.{Bool}
 use mathlib.Core.Path.{◌∙◌, ◌≡◌, ap, sym}
 use lib.ListN.{length}
 use Rattle.shelf.specs.Lent.{lent}
@@ -10,6 +8,7 @@ use Rattle.shelf.specs.Status.{full_resync}
 use Rattle.shelf.specs.declared.record.Shelf.{Shelf}
 use Rattle.shelf.proofs.lent.LeavesLaws.{refused_answered}
 use Rattle.shelf.proofs.calls.ResyncLaws.{all_asks, full_made}
+use borrow.Author.Rules.{rules}
 use Rattle.shelf.proofs.shelf_full_resync.Goals as goal
 
 pub returns-then-code-ne0 : goal.returns-then-code-ne0
@@ -60,7 +59,7 @@ make_all_parity-requires-clause-array_len c =
 pub returns : goal.returns
 returns c =
     let a = c.args in
-    let long : length a.shelf.failed ≡ 19 = length_unmapped Bool a.shelf.failed 19 c.well-formed.0.1.1.1.1.1.1.0.1.0.1 in
+    let long : length a.shelf.failed ≡ 19 = search rules in
     let done = sym c.if-code-ne0.false ∙ c.number_of-code.ensures in
     full_made a.shelf a.array.now a.log.now a.list.now long done c.drop_to.result c.make_all_parity.new.array c.fill.new.s
     (c.drop_to.ensures ∙ ap (λ (r : Shelf). with_listed r 0) c.in_mode-entered.ensures) c.make_all_parity.ensures c.fill.ensures

@@ -1,6 +1,5 @@
 -- `shelf::shelf_new_log` meets its contract.
 -- Assumes nothing.
-use mathlib.Core.Bool.{Bool}
 use mathlib.Core.Path.{◌∙◌, ◌≡◌, refl, subst, sym}
 use lib.ListN.{length}
 use Rattle.shelf.specs.Lent.{Answered, lent, state_of, tries_list}
@@ -13,7 +12,7 @@ use Rattle.shelf.specs.Status.{new_log}
 use Rattle.shelf.specs.below.Records.{with_renewed}
 use Rattle.shelf.proofs.numbers.CodeLaws.{new-log_bounds}
 use Rattle.shelf.proofs.lent.LeavesLaws.{renewed_answered, refused_answered}
-use borrow.Author.Rules.{length_unmapped}
+use borrow.Author.Rules.{rules}
 use Rattle.shelf.proofs.shelf_new_log.Goals as goal
 
 pub returns-then-code-ne0 : goal.returns-then-code-ne0
@@ -36,7 +35,7 @@ pub returns : goal.returns
 unfolding work state_of tries_list
 returns c =
     let a = c.args in
-    let long : length a.shelf.failed ≡ 19 = length_unmapped Bool a.shelf.failed 19 c.well-formed.0.1.1.1.1.1.1.0.1.0.1 in
+    let long : length a.shelf.failed ≡ 19 = search rules in
     let done = sym c.if-code-ne0.false ∙ c.number_of-code.ensures in
     subst (λ (r : Shelf). Answered (lent a.shelf a.array.now a.log.now a.list.now) new_log 0 (lent r a.array.now a.log.now a.list.now)) (sym c.renew.ensures)
     (subst (λ (n : ℕ). Answered (lent a.shelf a.array.now a.log.now a.list.now) new_log 0 (lent (with_renewed a.shelf n) a.array.now a.log.now a.list.now)) (sym c.log_member.ensures)

@@ -1,6 +1,5 @@
 -- `shelf::shelf_put_back` meets its contract.
 -- Assumes nothing.
-use mathlib.Core.Bool.{Bool}
 use mathlib.Core.Path.{◌∙◌, ◌≡◌, refl, subst, sym}
 use native.Mathlib.Omega.{arith}
 use lib.ListN.{length}
@@ -10,7 +9,7 @@ use Rattle.shelf.specs.declared.record.Shelf.{Shelf}
 use Rattle.shelf.specs.Status.{put_back}
 use Rattle.shelf.proofs.numbers.CodeLaws.{put-back_bounds}
 use Rattle.shelf.proofs.lent.LeavesLaws.{renewed_answered, refused_answered}
-use borrow.Author.Rules.{length_unmapped}
+use borrow.Author.Rules.{rules}
 use Rattle.shelf.proofs.shelf_put_back.Goals as goal
 
 pub returns-then-code-ne0 : goal.returns-then-code-ne0
@@ -27,7 +26,7 @@ pub returns : goal.returns
 unfolding work state_of tries_list
 returns c =
     let a = c.args in
-    let long : length a.shelf.failed ≡ 19 = length_unmapped Bool a.shelf.failed 19 c.well-formed.0.1.1.1.1.1.1.0.1.0.1 in
+    let long : length a.shelf.failed ≡ 19 = search rules in
     let done = sym c.if-code-ne0.false ∙ c.number_of-code.ensures in
     subst (λ (r : Shelf). Answered (lent a.shelf a.array.now a.log.now a.list.now) (put_back a.member) 0 (lent r a.array.now a.log.now a.list.now)) (sym c.renew.ensures)
     (renewed_answered a.shelf a.array.now a.log.now a.list.now long (λ i. omega (arith, c.shared_slice_known-3-1.given i)) (put_back a.member) a.member

@@ -31,28 +31,28 @@ unfolding number_of tries_list code_of
 read_blocks-requires-clause-in_range c =
     let a = c in
     let y = blocks-ready a.args.shelf a.args.array.now a.args.log.now a.args.list.now a.args.address a.args.count (length a.args.out.now) _ (sym c.number_of-code.ensures ∙ c.if-code-ne0.false) in
-    let whole = (y.0.listing.range, (y.0.array, y.1)) in whole.0
+    y.0.listing.range
 
 pub read_blocks-requires-clause-array_len : goal.read_blocks-requires-clause-array_len
 unfolding number_of tries_list code_of
 read_blocks-requires-clause-array_len c =
     let a = c in
     let y = blocks-ready a.args.shelf a.args.array.now a.args.log.now a.args.list.now a.args.address a.args.count (length a.args.out.now) _ (sym c.number_of-code.ensures ∙ c.if-code-ne0.false) in
-    let whole = (y.0.listing.range, (y.0.array, y.1)) in whole.1.0
+    y.0.array
 
 pub read_blocks-requires-clause-n_bound : goal.read_blocks-requires-clause-n_bound
 unfolding number_of tries_list code_of
 read_blocks-requires-clause-n_bound c =
     let a = c in
     let y = blocks-ready a.args.shelf a.args.array.now a.args.log.now a.args.list.now a.args.address a.args.count (length a.args.out.now) _ (sym c.number_of-code.ensures ∙ c.if-code-ne0.false) in
-    let whole = (y.0.listing.range, (y.0.array, y.1)) in whole.1.1.0
+    y.1.0
 
 pub read_blocks-requires-clause-out_len : goal.read_blocks-requires-clause-out_len
 unfolding number_of tries_list code_of
 read_blocks-requires-clause-out_len c =
     let a = c in
     let y = blocks-ready a.args.shelf a.args.array.now a.args.log.now a.args.list.now a.args.address a.args.count (length a.args.out.now) _ (sym c.number_of-code.ensures ∙ c.if-code-ne0.false) in
-    let whole = (y.0.listing.range, (y.0.array, y.1)) in whole.1.1.1
+    y.1.1
 
 pub returns-clause-answered : goal.returns-clause-answered
 unfolding state_of work tries_list

@@ -1,13 +1,12 @@
 -- `shelf::shelf_resync` meets its contract.
 -- Assumes nothing.
-use borrow.Author.Rules.{length_unmapped}
-use mathlib.Core.Bool.{Bool}
 use mathlib.Core.Path.{◌∙◌, ◌≡◌, ap, sym}
 use native.Mathlib.Omega.{arith}
 use lib.ListN.{length}
 use Rattle.shelf.specs.below.Records.{with_listed}
 use Rattle.shelf.specs.declared.record.Shelf.{Shelf}
 use Rattle.shelf.proofs.calls.ResyncLaws.{resync_asks, resync-made, resync-none, resync-refused, stripe_asks}
+use borrow.Author.Rules.{rules}
 use Rattle.shelf.proofs.shelf_resync.Goals as goal
 
 pub returns-then-code-ne0-clause-answered : goal.returns-then-code-ne0-clause-answered
@@ -33,14 +32,14 @@ lowest_stale-x-requires-clause-lists c =
 pub returns-then-x-s-clause-answered : goal.returns-then-x-s-clause-answered
 returns-then-x-s-clause-answered c =
     let a = c.args in
-    let long : length a.shelf.failed ≡ 19 = length_unmapped Bool a.shelf.failed 19 c.well-formed.0.1.1.1.1.1.1.0.1.0.1 in
+    let long : length a.shelf.failed ≡ 19 = search rules in
     let done = sym c.if-code-ne0.false ∙ c.number_of-code.ensures in
     let whole = resync-none a.shelf a.array.now a.log.now a.list.now long done c.lowest_stale-x.result c.lowest_stale-x.ensures c.if-x-s.true c.in_mode.result c.in_mode.ensures (λ i. omega (arith, c.slice_known-2-1.given i)) in whole.0
 
 pub returns-then-x-s-clause-stripe_value : goal.returns-then-x-s-clause-stripe_value
 returns-then-x-s-clause-stripe_value c =
     let a = c.args in
-    let long : length a.shelf.failed ≡ 19 = length_unmapped Bool a.shelf.failed 19 c.well-formed.0.1.1.1.1.1.1.0.1.0.1 in
+    let long : length a.shelf.failed ≡ 19 = search rules in
     let done = sym c.if-code-ne0.false ∙ c.number_of-code.ensures in
     let whole = resync-none a.shelf a.array.now a.log.now a.list.now long done c.lowest_stale-x.result c.lowest_stale-x.ensures c.if-x-s.true c.in_mode.result c.in_mode.ensures (λ i. omega (arith, c.slice_known-2-1.given i)) in whole.1
 
@@ -69,12 +68,22 @@ make_stripe-n-requires-clause-lists c =
     let a = c.args in
     let whole = stripe_asks a.shelf a.array.now a.log.now a.list.now (sym c.if-code-ne0.false ∙ c.number_of-code.ensures) c.lowest_stale-x.result c.if-x-s.false in whole.1.1.1.1
 
-pub returns : goal.returns
-returns c =
+pub returns-clause-answered : goal.returns-clause-answered
+returns-clause-answered c =
     let a = c.args in
-    let long : length a.shelf.failed ≡ 19 = length_unmapped Bool a.shelf.failed 19 c.well-formed.0.1.1.1.1.1.1.0.1.0.1 in
+    let long : length a.shelf.failed ≡ 19 = search rules in
     let done = sym c.if-code-ne0.false ∙ c.number_of-code.ensures in
     let made = c.make_stripe-n in
     let enter = c.in_mode-entered in
-    resync-made a.shelf a.array.now a.log.now a.list.now long done c.lowest_stale-x.result made.result c.lowest_stale-x.ensures c.if-x-s.false c.drop_to.result made.new.array made.new.list
-    (c.drop_to.ensures ∙ ap (λ (r : Shelf). with_listed r made.result) enter.ensures) made.ensures.array_after made.ensures.rewritten (λ i. omega (arith, c.slice_known-4-1.given i))
+    (resync-made a.shelf a.array.now a.log.now a.list.now long done c.lowest_stale-x.result made.result c.lowest_stale-x.ensures c.if-x-s.false c.drop_to.result made.new.array made.new.list
+    (c.drop_to.ensures ∙ ap (λ (r : Shelf). with_listed r made.result) enter.ensures) made.ensures.array_after made.ensures.rewritten (λ i. omega (arith, c.slice_known-4-1.given i))).0
+
+pub returns-clause-stripe_value : goal.returns-clause-stripe_value
+returns-clause-stripe_value c =
+    let a = c.args in
+    let long : length a.shelf.failed ≡ 19 = search rules in
+    let done = sym c.if-code-ne0.false ∙ c.number_of-code.ensures in
+    let made = c.make_stripe-n in
+    let enter = c.in_mode-entered in
+    (resync-made a.shelf a.array.now a.log.now a.list.now long done c.lowest_stale-x.result made.result c.lowest_stale-x.ensures c.if-x-s.false c.drop_to.result made.new.array made.new.list
+    (c.drop_to.ensures ∙ ap (λ (r : Shelf). with_listed r made.result) enter.ensures) made.ensures.array_after made.ensures.rewritten (λ i. omega (arith, c.slice_known-4-1.given i))).1

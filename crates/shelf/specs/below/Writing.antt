@@ -1,7 +1,7 @@
 -- Words for the contracts of the functions that a write is made of: tables by data index of what a write brings to a stripe, the plan by which a
 -- stripe is logged, and blocks copied by tables.
 -- Assumes nothing.
-use Rattle.std.specs.Prelude.{Bool, true, false, ◌&&◌, ◌||◌, List, ◌≡◌, ℕ, zero, suc, ◌+◌, ◌*◌, ◌-◌, ◌≤◌, ◌<◌, leb, length, get_or}
+use Rattle.std.specs.Prelude.{Bool, true, ◌&&◌, ◌||◌, List, ◌≡◌, ℕ, zero, suc, ◌+◌, ◌*◌, ◌-◌, ◌≤◌, ◌<◌, leb, length, get_or}
 use Rattle.stripe.specs.Blocks.{block, put}
 use Rattle.stripe.specs.Places.{numbered}
 use Rattle.stripe.specs.below.Tables.{Tabled}

@@ -1,7 +1,7 @@
 -- `shelf::entries::listed_of` meets its contract. The loop's invariant: the tests of the indices passed are in the table.
 -- Assumes nothing.
 use mathlib.Core.Path.{◌∙◌}
-use Prim.Native.Nat.{◌-◌, ◌<◌, zero-le}
+use Prim.Native.Nat.{◌<◌, zero-le}
 use native.Mathlib.Omega.{arith}
 use lib.ListN.{length, length-set}
 use Rattle.stripe.specs.Places.{numbered}

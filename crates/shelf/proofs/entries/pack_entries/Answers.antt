@@ -2,7 +2,7 @@
 -- Assumes nothing.
 use mathlib.Core.List.{List}
 use mathlib.Core.Path.{◌≡◌, refl, ap, ◌∙◌}
-use Prim.Native.Nat.{ℕ, ◌+◌, ◌-◌, ◌<◌, zero-le}
+use Prim.Native.Nat.{ℕ, ◌+◌, ◌<◌, zero-le}
 use native.Mathlib.Omega.{arith}
 use lib.ListN.{length}
 use Rattle.stripe.specs.Places.{numbered}
@@ -64,15 +64,15 @@ loop-i-preserved c =
     let after : List ℕ = r.new.slice in
     let long : length after ≡ length a.slice.now = search rules in
     let full : at-loop.n < length (held 16 0 at-loop.slice) = omega (arith, length-table 16 0 (at3 at-loop.slice)) in
-    let counted : r.result ≡ count (at-loop.i + 1) (tested a.t2) = r.ensures.value ∙ count_turn at-loop.i at-loop.n (tested a.t2) (tested a.t2 at-loop.i) at-loop.invariant.1.1.0 refl in (
+    let counted : r.result ≡ count (at-loop.i + 1) (tested a.listed) = r.ensures.value ∙ count_turn at-loop.i at-loop.n (tested a.listed) (tested a.listed at-loop.i) at-loop.invariant.1.1.0 refl in (
       omega arith,
       (
-        omega (arith, counted, count_most (at-loop.i + 1) (tested a.t2)),
+        omega (arith, counted, count_most (at-loop.i + 1) (tested a.listed)),
         (
           counted,
           (
             long,
-            packed_turn (tested a.t2) a.base (numbered a.entries.ori) (numbered a.entries.cur) at-loop.i at-loop.n (held 16 0 at-loop.slice) (held 16 0 after)
+            packed_turn (tested a.listed) a.base (numbered a.entries.ori) (numbered a.entries.cur) at-loop.i at-loop.n (held 16 0 at-loop.slice) (held 16 0 after)
                 at-loop.invariant.1.1.0 full r.ensures.slice_after at-loop.invariant.1.1.1.1,
           ),
         ),
@@ -84,11 +84,11 @@ returns-clause-value c =
     let a = c.args in
     let at-loop = c.loop-i in
     let done : at-loop.i ≡ a.d = omega arith in
-    at-loop.invariant.1.1.0 ∙ ap (λ (k : ℕ). count k (tested a.t2)) done
+    at-loop.invariant.1.1.0 ∙ ap (λ (k : ℕ). count k (tested a.listed)) done
 
 pub returns-clause-packed : goal.returns-clause-packed
 returns-clause-packed c =
     let a = c.args in
     let at-loop = c.loop-i in
     let done : at-loop.i ≡ a.d = omega arith in
-    packed_all (tested a.t2) a.base (numbered a.entries.ori) (numbered a.entries.cur) a.d at-loop.i at-loop.slice done c.requires.d_bound at-loop.invariant.1.1.1.1
+    packed_all (tested a.listed) a.base (numbered a.entries.ori) (numbered a.entries.cur) a.d at-loop.i at-loop.slice done c.requires.d_bound at-loop.invariant.1.1.1.1

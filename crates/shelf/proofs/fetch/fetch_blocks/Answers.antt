@@ -6,7 +6,6 @@ use lib.Seq.{length-take-le}
 use native.Mathlib.Omega.{arith}
 use Rattle.stripe.proofs.Laws.{no_products}
 use Rattle.shelf.specs.Lent.{lent, state_of}
-use Rattle.shelf.proofs.general.TestLaws.{not_on}
 use Rattle.shelf.proofs.agreement.ReadLaws.{sound_as_fetch}
 use Rattle.shelf.proofs.calls.ServedLaws.{wanted-sound}
 use Rattle.shelf.proofs.fetch.fetch_blocks.Goals as goal
@@ -41,7 +40,7 @@ returns-then-not-array_failed c =
     let r = a.args.shelf in
     c.read_blocks.ensures
     ∙ sound_as_fetch r.geometry (state_of (lent a.args.shelf a.args.array.now a.args.log.now a.args.list.now)) a.args.a a.args.n
-    (λ j _. wanted-sound r (omega (arith, a.requires.ready.listing.range.d_least)) (sym c.array_failed.ensures ∙ not_on c.array_failed.result c.if-not-array_failed.true) a.args.a j)
+    (λ j _. wanted-sound r (omega (arith, a.requires.ready.listing.range.d_least)) (sym c.array_failed.ensures ∙ c.if-not-array_failed.true) a.args.a j)
 
 pub slice_bounds-work-end : goal.slice_bounds-work-end
 slice_bounds-work-end c = c.requires.ready.listing.range.b_most

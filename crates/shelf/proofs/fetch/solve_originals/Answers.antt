@@ -8,7 +8,7 @@ use Rattle.stripe.specs.below.Steps.{Gathers}
 use Rattle.shelf.proofs.calls.GivenLaws.{held_all, gathers, worked_by}
 use Rattle.stripe.proofs.Laws.{two_at_least, differ}
 use Rattle.shelf.proofs.numbers.InputLaws.{array_small, sized}
-use borrow.Author.Rules.{length_unmapped}
+use borrow.Author.Rules.{rules}
 use Rattle.shelf.proofs.fetch.solve_originals.Goals as goal
 
 pub array_members-requires : goal.array_members-requires
@@ -19,15 +19,12 @@ overflow_mul-array_members c =
     let a = c in
     rw c.array_members.ensures (omega (arith, (array_small a.args.shelf.geometry a.requires.working_at.working.ready.listing.range).0))
 
-pub slice_bounds-solve-end : goal.slice_bounds-solve-end
-slice_bounds-solve-end c = let a = c in sym (length_unmapped ℕ a.args.from.originals 18 a.well-formed.1.1.1.1.0.1.1.1.0.1.0.1)
-
 pub solve-requires-clause-gathers : goal.solve-requires-clause-gathers
 solve-requires-clause-gathers c =
     let a = c in
     let w = a.requires.working_at in
     let g = a.args.shelf.geometry in
-    let long : length a.args.from.originals ≡ 18 = length_unmapped ℕ a.args.from.originals 18 a.well-formed.1.1.1.1.0.1.1.1.0.1.0.1 in
+    let long : length a.args.from.originals ≡ 18 = search rules in
     let most : g.d + g.parities ≤ length a.args.from.originals = omega (arith, long, w.working.ready.listing.range.d_most, w.working.ready.listing.range.parities_most) in
     subst (λ (m : ℕ). Gathers g.d (m * g.s) g.b a.args.array.now a.args.log.now a.args.from.originals a.args.work.now) (sym c.array_members.ensures)
           (gathers a.args.shelf a.args.array.now a.args.log.now a.args.list.now w.working.ready a.args.x w.stripe a.args.from.originals a.args.work.now most w.sources.numbers w.working.block)
@@ -37,7 +34,7 @@ solve-requires-clause-products c =
     let a = c in
     let w = a.requires.working_at in
     let g = a.args.shelf.geometry in
-    let long : length a.args.from.originals ≡ 18 = length_unmapped ℕ a.args.from.originals 18 a.well-formed.1.1.1.1.0.1.1.1.0.1.0.1 in
+    let long : length a.args.from.originals ≡ 18 = search rules in
     let most : g.d + g.parities ≤ length a.args.from.originals = omega (arith, long, w.working.ready.listing.range.d_most, w.working.ready.listing.range.parities_most) in
     w.working.products
 
@@ -46,7 +43,7 @@ solve-requires-clause-x_lt_d c =
     let a = c in
     let w = a.requires.working_at in
     let g = a.args.shelf.geometry in
-    let long : length a.args.from.originals ≡ 18 = length_unmapped ℕ a.args.from.originals 18 a.well-formed.1.1.1.1.0.1.1.1.0.1.0.1 in
+    let long : length a.args.from.originals ≡ 18 = search rules in
     let most : g.d + g.parities ≤ length a.args.from.originals = omega (arith, long, w.working.ready.listing.range.d_most, w.working.ready.listing.range.parities_most) in
     w.index
 
@@ -55,7 +52,7 @@ solve-requires-clause-held c =
     let a = c in
     let w = a.requires.working_at in
     let g = a.args.shelf.geometry in
-    let long : length a.args.from.originals ≡ 18 = length_unmapped ℕ a.args.from.originals 18 a.well-formed.1.1.1.1.0.1.1.1.0.1.0.1 in
+    let long : length a.args.from.originals ≡ 18 = search rules in
     let most : g.d + g.parities ≤ length a.args.from.originals = omega (arith, long, w.working.ready.listing.range.d_most, w.working.ready.listing.range.parities_most) in
     λ e.
               held_all a.args.shelf a.args.array.now a.args.log.now a.args.list.now w.working.ready a.args.x w.stripe a.args.from.originals most w.sources.numbers (g.d + 2)

@@ -1,7 +1,7 @@
 -- `shelf::links::link_gap` meets its contract. The loop's invariant: the places of the gap from t on are linked.
 -- Assumes nothing.
 use mathlib.Core.Path.{◌≡◌, refl, subst}
-use Prim.Native.Nat.{ℕ, ◌+◌, ◌-◌}
+use Prim.Native.Nat.{ℕ, ◌+◌}
 use native.Mathlib.Omega.{arith}
 use lib.ListN.{length}
 use Rattle.shelf.specs.Words.{words}

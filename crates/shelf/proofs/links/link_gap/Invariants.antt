@@ -1,7 +1,7 @@
 -- `shelf::links::link_gap` meets its contract. The loop's invariant: the places of the gap from t on are linked.
 -- Assumes nothing.
 use mathlib.Core.Path.{◌≡◌}
-use Prim.Native.Nat.{◌+◌, ◌-◌, ◌≤◌}
+use Prim.Native.Nat.{◌+◌, ◌≤◌}
 use lib.ListN.{length}
 use Rattle.shelf.specs.Words.{words}
 use Rattle.shelf.specs.below.Rewriting.{LinkedIn}

@@ -47,7 +47,7 @@ returns-then-r-eq0 c =
     let y = c.word-y in
     let one = c.put_next in
     let two = c.put_word in
-    linked_in a.h a.p a.t r.result (s.result % a.h) (s.result % a.h) (words a.list.now) (words one.new.list) (words two.new.out)
+    linked_in a.h a.p a.t r.result (s.result % a.h) (s.result % a.h) (words a.list.now) (words one.new.list) (words two.new.list)
     st.requires.p_le_t (mod-lt s.result st.requires.h_nonzero) (ap (λ (k : ℕ). k % a.h) s.ensures.value) r.ensures (λ _. refl) (λ o. absurd (omega (arith, c.if-r-eq0.true)))
     (words_long a.list.now (a.h + 4 * a.t + 3) (omega (arith, st.requires.has_place.1.1)))
     (one.ensures ∙ ap (λ (k : ℕ). set (words a.list.now) (a.h + 4 * a.t + 3) k) y.ensures.value) two.ensures

@@ -1,6 +1,6 @@
 -- `shelf::links::lower_heads` meets its contract. The loop's invariant: the slot heads below s are lowered, and all other words are as they were.
 -- Assumes nothing.
-use Prim.Native.Nat.{◌-◌, ◌<◌, zero-le, ℕ}
+use Prim.Native.Nat.{◌<◌, zero-le, ℕ}
 use mathlib.Core.Path.{◌≡◌, refl, subst}
 use lib.ListN.{length}
 use Rattle.shelf.specs.Words.{words}
@@ -57,11 +57,11 @@ loop-s-preserved c =
     let g = st.requires.gap in
     let go : at.s < a.h = c.loop-s-test.true in
     let len : length at.list ≡ length a.list.now = at.invariant.1.0 in
-    let same : length put.new.out ≡ length a.list.now = search rules in (
+    let same : length put.new.list ≡ length a.list.now = search rules in (
       omega arith,
       (
         same,
-        heads_turn a.h a.p a.q at.s y.result r.result (words a.list.now) (words at.list) (words put.new.out) go
+        heads_turn a.h a.p a.q at.s y.result r.result (words a.list.now) (words at.list) (words put.new.list) go
             (words_long at.list at.s (omega (arith, g.0, g.1.1.1))) at.invariant.1.1 y.ensures.value r.ensures.lowers put.ensures,
       ),
     )

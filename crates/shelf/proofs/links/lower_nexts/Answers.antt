@@ -1,6 +1,6 @@
 -- `shelf::links::lower_nexts` meets its contract. The loop's invariant: the Next words of the places below i are lowered, and all other words are as they were.
 -- Assumes nothing.
-use Prim.Native.Nat.{◌+◌, ◌*◌, ◌-◌, ◌<◌, zero-le, ℕ}
+use Prim.Native.Nat.{◌+◌, ◌*◌, ◌<◌, zero-le, ℕ}
 use mathlib.Core.Path.{◌≡◌, refl, subst}
 use lib.ListN.{length}
 use Rattle.shelf.specs.Words.{words}

@@ -1,6 +1,5 @@
 -- `shelf::links::lowered` meets its contract. The loop's invariant: the link led past no place of its slot that stays.
 -- Assumes nothing.
-use Prim.Native.Nat.{◌-◌}
 use Rattle.shelf.specs.Words.{words}
 use Rattle.shelf.proofs.hashlist.LinkLaws.{passing-start, passing_turn, lowers_low, lowers_none, lowers_high}
 use native.Mathlib.Omega.{arith}

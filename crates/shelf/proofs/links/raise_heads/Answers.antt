@@ -1,7 +1,7 @@
 -- `shelf::links::raise_heads` meets its contract. The loop's invariant: the slot heads below s are raised, and all other words are as they were.
 -- Assumes nothing.
 use mathlib.Core.Path.{◌≡◌, refl, subst}
-use Prim.Native.Nat.{ℕ, ◌-◌, ◌<◌, zero-le}
+use Prim.Native.Nat.{ℕ, ◌<◌, zero-le}
 use native.Mathlib.Omega.{arith}
 use lib.ListN.{length}
 use Rattle.shelf.specs.Words.{words}
@@ -27,11 +27,11 @@ loop-s-preserved c =
     let g = st.requires in
     let go : at.s < a.h = c.loop-s-test.true in
     let len : length at.list ≡ length a.list.now = at.invariant.1.0 in
-    let same : length put.new.out ≡ length a.list.now = search rules in (
+    let same : length put.new.list ≡ length a.list.now = search rules in (
       omega arith,
       (
         same,
-        raised_turn a.p a.m a.c at.s y.result r.result (words a.list.now) (words at.list) (words put.new.out)
+        raised_turn a.p a.m a.c at.s y.result r.result (words a.list.now) (words at.list) (words put.new.list)
             (words_long at.list at.s (omega (arith, g.0, g.1.1.1))) at.invariant.1.1 y.ensures.value r.ensures.up put.ensures,
       ),
     )

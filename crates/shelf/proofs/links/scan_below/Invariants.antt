@@ -1,7 +1,7 @@
 -- `shelf::links::scan_below` meets its contract. The loop's invariant: no place from r on, below p, is of the slot.
 -- Assumes nothing.
 use mathlib.Core.Logic.{◌≢◌}
-use Prim.Native.Nat.{ℕ, ◌-◌, ◌%◌, ◌<◌, ◌≤◌}
+use Prim.Native.Nat.{ℕ, ◌%◌, ◌<◌, ◌≤◌}
 use Rattle.shelf.specs.Words.{words}
 use Rattle.shelf.specs.HashList.{address_at}
 use Rattle.shelf.proofs.links.scan_below.Given as goal

@@ -1,6 +1,6 @@
 -- `shelf::links::walk_below` meets its contract. The loop's invariant: y goes on behind place r - 1 of the slot's chain.
 -- Assumes nothing.
-use Prim.Native.Nat.{◌-◌, zero-le}
+use Prim.Native.Nat.{zero-le}
 use native.Mathlib.Omega.{arith}
 use Rattle.shelf.specs.Words.{words}
 use Rattle.shelf.proofs.hashlist.LinkLaws.{walked_start, walked_turn, walked_end, walked_stop}

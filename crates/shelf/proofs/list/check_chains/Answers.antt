@@ -1,53 +1,20 @@
 -- `shelf::list::check_chains` meets its contract. The loops' invariants: what is left of the walk, from here, is the whole walk, unless
 -- more than n places were met, and then the whole walk is a fault.
 -- Assumes nothing.
-use mathlib.Core.Bool.{Bool, true, false}
 use mathlib.Core.List.{List}
-use mathlib.Core.Logic.{⊎_elim}
 use mathlib.Core.Path.{◌≡◌, refl, sym, ap, ◌∙◌}
-use Prim.Native.Nat.{ℕ, ◌-◌, ◌/◌, ◌≤◌, ◌<◌, zero-le}
+use Prim.Native.Nat.{ℕ, ◌/◌, ◌≤◌, ◌<◌, zero-le}
 use native.Mathlib.Nat.{sub-zero, div-le_self}
 use native.Mathlib.Omega.{arith}
 use lib.Dec.{eqb}
-use borrow.Author.Tests.{not-true}
 use Rattle.shelf.specs.Words.{words}
 use Rattle.shelf.specs.HashList.{next_at}
-use Rattle.shelf.specs.below.Checking.{slots, chained}
+use Rattle.shelf.specs.below.Checking.{slots}
 use Rattle.shelf.proofs.general.TestLaws.{not_so}
 use Rattle.shelf.proofs.hashlist.NumberThree.{turn_slot, turn_place, turn_end, stop_out, stop_bad, walked_all}
 use Rattle.shelf.proofs.hashlist.PlaceLaws.{links_rise}
 use Rattle.shelf.proofs.list.check_chains.Goals as goal
-
--- where the ways out of the loops meet: what the chains come to, by the flag
-record Came (fault : Bool) (m n : ℕ) (t : Bool) : Type 0 where
-  bad : fault ≡ true → t ≡ false
-  fine : fault ≡ false → t ≡ eqb m n
-
-came : (c : tie.Left-all invariant-loop decreases-loop invariant-all decreases-all) → Came c.all-test.fault c.all-test.m c.before.before.before.args.n
-    (chained (words c.before.before.before.args.list.now) c.before.before.before.args.g.h c.before.before.before.args.n)
-came c =
-    let at_all = c.before in
-    let st = at_all.before.before in
-    let a = st.args in
-    let w : List ℕ = words a.list.now in
-    let few : a.n ≤ 4096 = omega (arith, st.requires.0.e1, st.requires.1.0) in
-    ⊎_elim
-    (λ x. record {
-      bad = λ t. absurd (not_so (sym t ∙ x.2 ∙ at_all.all.invariant.1.0));
-      fine = λ t. walked_all w a.g.h a.n at_all.all.i at_all.all.m x.0.left at_all.all.invariant.1.1.1
-          ∙ ap (λ (k : ℕ). eqb k a.n) (sym x.1);
-    })
-    (⊎_elim
-    (λ x. record {
-      bad = λ t. stop_bad w a.g.h a.n at_all.all.i x.2.m x.2.p x.4.result few x.3.taken x.4.ensures
-          (not-true _ x.5.taken) x.2.inv.1.1;
-      fine = λ t. absurd (not_so (sym x.7 ∙ t));
-    })
-    (λ x. record {
-      bad = λ t. stop_out w a.g.h a.n at_all.all.i x.2.m x.2.p x.4.taken x.3.left x.2.inv.1.1;
-      fine = λ t. absurd (not_so (sym x.6 ∙ t));
-    }))
-    c.all-test.branch
+use Rattle.shelf.proofs.list.check_chains.Goals.{else-all-test, then-all-test+then-loop-p-test+then-not-links_up, then-all-test+else-loop-p-test+then-p-ne-NONE}
 
 pub overflow_add-share : goal.overflow_add-share
 overflow_add-share c =
@@ -92,7 +59,7 @@ links_up-requires-clause-has_place c =
     let st = at_all in
     let p : ℕ = c.loop-p.p in
     let l : c.loop-p.p < st.args.n = c.loop-p-test.true in
-    (st.requires.0.h1, (omega (arith, st.requires.0.e1, st.requires.1.0), omega (arith, st.requires.0.len, st.requires.1.0)))
+    (st.requires.measures.h1, (omega (arith, st.requires.measures.e1, st.requires.n_le_e), omega (arith, st.requires.measures.len, st.requires.n_le_e)))
 
 pub links_up-requires-clause-share_value : goal.links_up-requires-clause-share_value
 links_up-requires-clause-share_value c =
@@ -116,7 +83,7 @@ links_up-requires-clause-p_bound c =
     let st = at_all in
     let p : ℕ = c.loop-p.p in
     let l : c.loop-p.p < st.args.n = c.loop-p-test.true in
-    st.requires.1.1 p l
+    st.requires.low_to p l
 
 pub loop-p-smaller : goal.loop-p-smaller
 loop-p-smaller c =
@@ -162,7 +129,26 @@ all-preserved c =
     )
 
 pub returns-then-fault : goal.returns-then-fault
-returns-then-fault c = sym ((came c).bad c.if-fault.true)
+returns-then-fault c =
+    let a = c.args in
+    let w : List ℕ = words a.list.now in
+    let few : a.n ≤ 4096 = omega (arith, c.requires.measures.e1, c.requires.n_le_e) in
+    elim c.all-test.branch [
+      else-all-test x ↦ absurd (not_so (sym c.if-fault.true ∙ x.fault-is ∙ c.all.invariant.1.0))
+    | then-all-test+then-loop-p-test+then-not-links_up x ↦
+          sym (stop_bad w a.g.h a.n c.all.i x.loop-p.m x.loop-p.p x.links_up.result few x.loop-p-test.true x.links_up.ensures
+          x.if-not-links_up.true x.loop-p.invariant.1.1)
+    | then-all-test+else-loop-p-test+then-p-ne-NONE x ↦
+          sym (stop_out w a.g.h a.n c.all.i x.loop-p.m x.loop-p.p x.if-p-ne-NONE.true x.loop-p-test.false x.loop-p.invariant.1.1)
+    ]
 
 pub returns : goal.returns
-returns c = sym ((came c).fine c.if-fault.false)
+returns c =
+    let a = c.args in
+    let w : List ℕ = words a.list.now in
+    elim c.all-test.branch [
+      else-all-test x ↦
+          sym (walked_all w a.g.h a.n c.all.i c.all.m x.all-test.false c.all.invariant.1.1.1 ∙ ap (λ (k : ℕ). eqb k a.n) (sym x.m-is))
+    | then-all-test+then-loop-p-test+then-not-links_up x ↦ absurd (not_so (sym x.fault-is ∙ c.if-fault.false))
+    | then-all-test+else-loop-p-test+then-p-ne-NONE x ↦ absurd (not_so (sym x.fault-is ∙ c.if-fault.false))
+    ]

@@ -10,20 +10,20 @@ use Rattle.shelf.proofs.log.log_blocks.Goals as goal
 pub log_new-requires-clause-in_range : goal.log_new-requires-clause-in_range
 log_new-requires-clause-in_range c =
     let st = c in
-    let long : length c.log_pre_read.last.1.1.1.1.0 ≡ length st.args.log.now = search rules in
-    st.pre.storable.range
+    let long : length c.log_pre_read.new.log ≡ length st.args.log.now = search rules in
+    st.requires.storable.range
 
 pub log_new-requires-clause-within : goal.log_new-requires-clause-within
 log_new-requires-clause-within c =
     let st = c in
-    let long : length c.log_pre_read.last.1.1.1.1.0 ≡ length st.args.log.now = search rules in
-    st.pre.storable.within
+    let long : length c.log_pre_read.new.log ≡ length st.args.log.now = search rules in
+    st.requires.storable.within
 
 pub log_new-requires-clause-within_2 : goal.log_new-requires-clause-within_2
 log_new-requires-clause-within_2 c =
     let st = c in
-    let long : length c.log_pre_read.last.1.1.1.1.0 ≡ length st.args.log.now = search rules in
-    λ i h e. omega (arith, st.pre.new i h e, long)
+    let long : length c.log_pre_read.new.log ≡ length st.args.log.now = search rules in
+    λ i h e. omega (arith, st.requires.new i h e, long)
 
 pub returns : goal.returns
 returns c =

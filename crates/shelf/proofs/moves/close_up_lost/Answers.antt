@@ -2,17 +2,16 @@
 -- whole.
 -- Assumes nothing.
 use mathlib.Core.Bool.{Bool}
-use mathlib.Core.Logic.{⊎_elim}
 use mathlib.Core.Path.{◌≡◌, sym, ◌∙◌}
-use Prim.Native.Nat.{ℕ, ◌-◌}
+use Prim.Native.Nat.{ℕ}
 use native.Mathlib.Omega.{arith}
 use lib.ListN.{length}
 use Rattle.shelf.specs.below.Rebuilding.{parity_failed_at}
 use Rattle.shelf.specs.declared.record.Geometry.{Geometry}
-use Rattle.shelf.proofs.general.TestLaws.{not_on, not_off}
 use Rattle.shelf.proofs.hashlist.EntryLaws.{closing-start, closing_keep, closing-skip, closing_end}
 use borrow.Author.Rules.{rules}
 use Rattle.shelf.proofs.moves.close_up_lost.Goals as goal
+use Rattle.shelf.proofs.moves.close_up_lost.Goals.{then-not-parity_failed, else-not-parity_failed}
 
 pub loop-p-init : goal.loop-p-init
 loop-p-init c =
@@ -30,15 +29,15 @@ loop-p-preserved c =
     let o = c.address-a in
     let f = c.parity_failed in
     let pn = c.loop-p-test.true in
-    ⊎_elim
-    (λ u.
-    let same : length u.2.last.0 ≡ length a.list.now = search rules in
-    closing_keep g.d g.h g.e a.n t a.list.now at-loop.loop-p.list u.2.last.0 _ at-loop.loop-p.m _ at-loop.loop-p.p o.result pn st.requires.1.0
-    at-loop.loop-p.invariant o.ensures.value (sym f.ensures ∙ not_on f.result u.0.taken) same u.2.ensures.0 u.2.ensures.1 u.5 u.6)
-    (λ u.
-    closing-skip g.d g.h g.e a.n t a.list.now at-loop.loop-p.list _ at-loop.loop-p.m _ at-loop.loop-p.p o.result pn st.requires.1.0
-    at-loop.loop-p.invariant o.ensures.value (sym f.ensures ∙ not_off f.result u.0.left) u.1 u.2)
-    c.if-not-parity_failed.branch
+    elim c.if-not-parity_failed.branch [
+      then-not-parity_failed w ↦
+          (let same : length w.move_place.new.list ≡ length a.list.now = search rules in
+          closing_keep g.d g.h g.e a.n t a.list.now at-loop.loop-p.list w.move_place.new.list _ at-loop.loop-p.m _ at-loop.loop-p.p o.result pn st.requires.n_le_e
+          at-loop.loop-p.invariant o.ensures.value (sym f.ensures ∙ w.if-not-parity_failed.true) same w.move_place.ensures.h_after w.move_place.ensures.kept_from w.list-is w.m-is)
+    | else-not-parity_failed w ↦
+          closing-skip g.d g.h g.e a.n t a.list.now at-loop.loop-p.list _ at-loop.loop-p.m _ at-loop.loop-p.p o.result pn st.requires.n_le_e
+          at-loop.loop-p.invariant o.ensures.value (sym f.ensures ∙ w.if-not-parity_failed.false) w.list-is w.m-is
+    ]
 
 pub returns-clause-upper_bound : goal.returns-clause-upper_bound
 returns-clause-upper_bound c =

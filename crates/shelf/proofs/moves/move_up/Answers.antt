@@ -1,7 +1,7 @@
 -- `shelf::moves::move_up` meets its contract. The loop's invariant: the places from j on are moved.
 -- Assumes nothing.
 use mathlib.Core.Path.{◌≡◌, refl, subst}
-use Prim.Native.Nat.{ℕ, ◌-◌}
+use Prim.Native.Nat.{ℕ}
 use native.Mathlib.Omega.{arith}
 use lib.ListN.{length}
 use Rattle.shelf.specs.Words.{words}

@@ -1,7 +1,7 @@
 -- `shelf::moves::move_up` meets its contract. The loop's invariant: the places from j on are moved.
 -- Assumes nothing.
 use mathlib.Core.Path.{◌≡◌}
-use Prim.Native.Nat.{◌-◌, ◌≤◌}
+use Prim.Native.Nat.{◌≤◌}
 use lib.ListN.{length}
 use Rattle.shelf.specs.Words.{words}
 use Rattle.shelf.specs.below.Rewriting.{MovedUp}

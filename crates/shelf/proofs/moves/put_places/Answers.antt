@@ -2,7 +2,7 @@
 -- Assumes nothing.
 use mathlib.Core.List.{List}
 use mathlib.Core.Path.{◌≡◌, refl, ◌∙◌, subst}
-use Prim.Native.Nat.{ℕ, ◌+◌, ◌*◌, ◌-◌, zero-le}
+use Prim.Native.Nat.{ℕ, ◌+◌, ◌*◌, zero-le}
 use native.Mathlib.Omega.{arith}
 use lib.ListN.{length}
 use Rattle.shelf.specs.Words.{words}
@@ -43,7 +43,7 @@ put_entry-requires-clause-h_bound c =
     let known = c.shared_slice_known-in-loop-j-3-1.given in
     let st = at-loop in
     let len : length at-loop.loop-j.list ≡ length st.args.list.now = at-loop.loop-j.invariant.1.0 in
-    st.requires.1.0
+    st.requires.h_bound
 
 pub put_entry-requires-clause-e_bound : goal.put_entry-requires-clause-e_bound
 put_entry-requires-clause-e_bound c =
@@ -52,7 +52,7 @@ put_entry-requires-clause-e_bound c =
     let known = c.shared_slice_known-in-loop-j-3-1.given in
     let st = at-loop in
     let len : length at-loop.loop-j.list ≡ length st.args.list.now = at-loop.loop-j.invariant.1.0 in
-    st.requires.1.1.0
+    st.requires.e_bound
 
 pub put_entry-requires-clause-list_len : goal.put_entry-requires-clause-list_len
 put_entry-requires-clause-list_len c =
@@ -61,7 +61,7 @@ put_entry-requires-clause-list_len c =
     let known = c.shared_slice_known-in-loop-j-3-1.given in
     let st = at-loop in
     let len : length at-loop.loop-j.list ≡ length st.args.list.now = at-loop.loop-j.invariant.1.0 in
-    len ∙ st.requires.1.1.1.0
+    len ∙ st.requires.list_len
 
 pub put_entry-requires-clause-a_bound : goal.put_entry-requires-clause-a_bound
 put_entry-requires-clause-a_bound c =
@@ -123,7 +123,7 @@ returns-clause-filled c =
     let done : at-loop.loop-j.j ≡ a.c = omega arith in
     let t : List Entry = placed a.e (words a.list.now) a.h 0 in
     let u : List Entry = placed a.e (words at-loop.loop-j.list) a.h 0 in
-    let whole = (subst (λ (j : ℕ). Filled a.i j t u a.y.now) done at-loop.loop-j.invariant.1.1.0, at-loop.loop-j.invariant.1.1.1) in whole.0
+    subst (λ (j : ℕ). Filled a.i j t u a.y.now) done at-loop.loop-j.invariant.1.1.0
 
 pub returns-clause-kept_from : goal.returns-clause-kept_from
 returns-clause-kept_from c =
@@ -132,7 +132,7 @@ returns-clause-kept_from c =
     let done : at-loop.loop-j.j ≡ a.c = omega arith in
     let t : List Entry = placed a.e (words a.list.now) a.h 0 in
     let u : List Entry = placed a.e (words at-loop.loop-j.list) a.h 0 in
-    let whole = (subst (λ (j : ℕ). Filled a.i j t u a.y.now) done at-loop.loop-j.invariant.1.1.0, at-loop.loop-j.invariant.1.1.1) in whole.1.0
+    at-loop.loop-j.invariant.1.1.1.0
 
 pub returns-clause-links_kept : goal.returns-clause-links_kept
 returns-clause-links_kept c =
@@ -141,4 +141,4 @@ returns-clause-links_kept c =
     let done : at-loop.loop-j.j ≡ a.c = omega arith in
     let t : List Entry = placed a.e (words a.list.now) a.h 0 in
     let u : List Entry = placed a.e (words at-loop.loop-j.list) a.h 0 in
-    let whole = (subst (λ (j : ℕ). Filled a.i j t u a.y.now) done at-loop.loop-j.invariant.1.1.0, at-loop.loop-j.invariant.1.1.1) in whole.1.1
+    at-loop.loop-j.invariant.1.1.1.1

@@ -1,7 +1,7 @@
 -- `shelf::moves::relink` meets its contract. The loop's invariant: the places from p on are linked, those below hold what they held.
 -- Assumes nothing.
 use mathlib.Core.Path.{◌≡◌, refl}
-use Prim.Native.Nat.{◌+◌, ◌*◌, ◌-◌}
+use Prim.Native.Nat.{◌+◌, ◌*◌}
 use native.Mathlib.Omega.{arith}
 use lib.ListN.{length}
 use Rattle.shelf.specs.Words.{words}
@@ -38,8 +38,8 @@ loop-p-preserved c =
       omega arith,
       (
         same,
-        linked_turn (words rest.new.list) (words at-loop.loop-p.list) (words put.new.list) g.h g.e a.m at-loop.loop-p.p st.requires.0.h0
-            c.loop-p-test.true at-loop.loop-p.invariant.0 st.requires.1.0 put.ensures at-loop.loop-p.invariant.1.1,
+        linked_turn (words rest.new.list) (words at-loop.loop-p.list) (words put.new.list) g.h g.e a.m at-loop.loop-p.p st.requires.measures.h0
+            c.loop-p-test.true at-loop.loop-p.invariant.0 st.requires.m_le_e put.ensures at-loop.loop-p.invariant.1.1,
       ),
     )
 
@@ -51,7 +51,7 @@ returns c =
     let g : Geometry = a.g in
     let heads = c.fill_from in
     let rest = c.fill_from-2 in
-    linked_done (words rest.new.list) (words at-loop.loop-p.list) g a.m at-loop.loop-p.p (omega arith) st.requires.1.0 at-loop.loop-p.invariant.1.1
+    linked_done (words rest.new.list) (words at-loop.loop-p.list) g a.m at-loop.loop-p.p (omega arith) st.requires.m_le_e at-loop.loop-p.invariant.1.1
     (words a.list.now)
-    (blank-kept (words a.list.now) (words heads.new.list) (words rest.new.list) g.h g.e a.m a.n st.requires.1.0
-    (length-words a.list.now (g.h + 4 * g.e) st.requires.0.len) st.requires.1.1.1 heads.ensures rest.ensures)
+    (blank-kept (words a.list.now) (words heads.new.list) (words rest.new.list) g.h g.e a.m a.n st.requires.m_le_e
+    (length-words a.list.now (g.h + 4 * g.e) st.requires.measures.len) st.requires.none_behind heads.ensures rest.ensures)

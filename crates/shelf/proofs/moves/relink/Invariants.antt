@@ -1,7 +1,7 @@
 -- `shelf::moves::relink` meets its contract. The loop's invariant: the places from p on are linked, those below hold what they held.
 -- Assumes nothing.
 use mathlib.Core.Path.{◌≡◌}
-use Prim.Native.Nat.{◌-◌, ◌≤◌}
+use Prim.Native.Nat.{◌≤◌}
 use lib.ListN.{length}
 use Rattle.shelf.specs.Words.{words}
 use Rattle.shelf.proofs.hashlist.FillLaws.{Linked}

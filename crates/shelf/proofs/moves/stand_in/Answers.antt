@@ -1,9 +1,8 @@
 -- `shelf::moves::stand_in` meets its contract. The loop's invariant: the place behind is of another stripe, and the places passed have the
 -- addresses of the slice.
 -- Assumes nothing.
-use mathlib.Core.Logic.{⊎_elim}
 use mathlib.Core.Path.{◌≡◌, refl, sym, ◌∙◌, subst}
-use Prim.Native.Nat.{ℕ, ◌+◌, ◌*◌, ◌-◌, ◌≤◌, ◌<◌, zero-le}
+use Prim.Native.Nat.{ℕ, ◌+◌, ◌*◌, ◌≤◌, ◌<◌, zero-le}
 use native.Mathlib.Omega.{arith}
 use borrow.Author.Count.{below_more}
 use Rattle.shelf.specs.Words.{words}
@@ -11,6 +10,7 @@ use Rattle.shelf.specs.HashList.{address_at}
 use Rattle.shelf.specs.below.Rewriting.{at3}
 use Rattle.shelf.proofs.general.TestLaws.{clash}
 use Rattle.shelf.proofs.moves.stand_in.Goals as goal
+use Rattle.shelf.proofs.moves.stand_in.Goals.{then-q-n-2+else-address-end, else-q-n-2}
 
 pub returns-then-q-n : goal.returns-then-q-n
 returns-then-q-n c = λ e. clash e refl
@@ -23,10 +23,10 @@ loop-j-init c =
     let a = c.args in (
       omega (arith, c.if-q-n.false),
       (
-        ⊎_elim
-            (λ u o. subst (λ (k : ℕ). a.end ≤ k) u.1.ensures.0 u.2.left)
-            (λ u o. absurd (omega (arith, o, u.left)))
-            c.if-q-n-2.branch,
+        elim c.if-q-n-2.branch [
+          then-q-n-2+else-address-end w ↦ (λ o. subst (λ (k : ℕ). a.end ≤ k) w.address.ensures.value w.if-address-end.false)
+        | else-q-n-2 w ↦ (λ o. absurd (omega (arith, o, w.if-q-n-2.false)))
+        ],
         (zero-le, λ k o. absurd (omega arith)),
       ),
     )

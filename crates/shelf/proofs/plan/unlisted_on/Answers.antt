@@ -1,7 +1,7 @@
 -- `shelf::plan::unlisted_on` meets its contract. The loop's invariant: the tests of the indices passed are in the table.
 -- Assumes nothing.
 use mathlib.Core.Path.{◌∙◌}
-use Prim.Native.Nat.{◌-◌, ◌<◌, zero-le}
+use Prim.Native.Nat.{◌<◌, zero-le}
 use native.Mathlib.Omega.{arith}
 use lib.ListN.{length, length-set}
 use Rattle.shelf.specs.below.Tables.{tested}
@@ -22,8 +22,8 @@ loop-i-preserved c =
       omega arith,
       (
         length-set at-loop.side at-loop.i r.result ∙ at-loop.invariant.1.0,
-        tests_turn at-loop.i r.result at-loop.side (unlisted_on a.written (tested a.t2) (tested a.t3)) low
-            (side_is a.written (tested a.t2) (tested a.t3) at-loop.i r.result r.ensures) at-loop.invariant.1.1,
+        tests_turn at-loop.i r.result at-loop.side (unlisted_on a.written (tested a.new) (tested a.listed)) low
+            (side_is a.written (tested a.new) (tested a.listed) at-loop.i r.result r.ensures) at-loop.invariant.1.1,
       ),
     )
 

@@ -1,8 +1,7 @@
 -- `shelf::rebuild::fill_stripe` meets its contract. The loop's invariant: the first i data blocks are filled.
 -- Assumes nothing.
-use mathlib.Core.Logic.{⊎_elim}
 use mathlib.Core.Path.{◌≡◌, refl, sym, ◌∙◌, ap, subst}
-use Prim.Native.Nat.{ℕ, ◌-◌, ◌<◌, zero-le}
+use Prim.Native.Nat.{ℕ, ◌<◌, zero-le}
 use native.Mathlib.Omega.{arith}
 use lib.ListN.{length}
 use Rattle.stripe.specs.below.Steps.{Products}
@@ -10,6 +9,7 @@ use Rattle.shelf.specs.Lent.{lent}
 use Rattle.shelf.specs.below.Rebuilding.{filled_to}
 use Rattle.shelf.proofs.calls.RefillLaws.{below_so_far, rebuildable_with, filled_sound, filled_start, filled_more}
 use Rattle.shelf.proofs.rebuild.fill_stripe.Goals as goal
+use Rattle.shelf.proofs.rebuild.fill_stripe.Goals.{then-lost-i, else-lost-i}
 
 pub sources_of-from-requires-clause-list_ready : goal.sources_of-from-requires-clause-list_ready
 sources_of-from-requires-clause-list_ready c =
@@ -79,37 +79,39 @@ loop-i-preserved c =
     let h = lent a.args.shelf a.args.array.now a.args.log.now a.args.list.now in
     let low : at-loop.i < a.args.shelf.geometry.d = c.loop-i-test.true in
     let flag = c.failed_roles-lost.ensures at-loop.i (omega arith) in
-    ⊎_elim
-    (λ u. (
-      omega (arith, low),
-      (
-        ap length u.11 ∙ u.5.given ∙ at-loop.invariant.1.0,
-        (
-          ap length u.12 ∙ u.7.given ∙ at-loop.invariant.1.1.0,
+    elim c.if-lost-i.branch [
+      then-lost-i u ↦
           (
-            subst Products (sym u.13) u.4.ensures.1,
-            u.11 ∙ filled_more h a.args.x at-loop.i at-loop.array u.4.last.1.1.1.1.0 at-loop.invariant.1.1.1.1 u.4.ensures.0,
-          ),
-        ),
-      ),
-    ))
-    (λ u. (
-      omega (arith, low),
-      (
-        ap length u.1 ∙ at-loop.invariant.1.0,
-        (
-          ap length u.2 ∙ at-loop.invariant.1.1.0,
+            omega (arith, low),
+            (
+              ap length u.array-is ∙ u.fill_block.auto.array ∙ at-loop.invariant.1.0,
+              (
+                ap length u.work-is ∙ u.fill_block.auto.work ∙ at-loop.invariant.1.1.0,
+                (
+                  subst Products (sym u.products-is) u.fill_block.ensures.products,
+                  u.array-is ∙ filled_more h a.args.x at-loop.i at-loop.array u.fill_block.new.array at-loop.invariant.1.1.1.1 u.fill_block.ensures.array_after,
+                ),
+              ),
+            ),
+          )
+    | else-lost-i u ↦
           (
-            subst Products (sym u.3) at-loop.invariant.1.1.1.0,
-            u.1 ∙ filled_more h a.args.x at-loop.i at-loop.array at-loop.array at-loop.invariant.1.1.1.1
-                (filled_sound a.args.shelf at-loop.array a.args.log.now a.args.list.now
-                (rebuildable_with a.args.shelf a.args.array.now at-loop.array a.args.log.now a.args.list.now a.requires.rebuildable at-loop.invariant.1.0).ready
-                a.args.x at-loop.i a.requires.x_lt_s low (sym flag ∙ u.0.left)),
-          ),
-        ),
-      ),
-    ))
-    c.if-lost-i.branch
+            omega (arith, low),
+            (
+              ap length u.array-is ∙ at-loop.invariant.1.0,
+              (
+                ap length u.work-is ∙ at-loop.invariant.1.1.0,
+                (
+                  subst Products (sym u.products-is) at-loop.invariant.1.1.1.0,
+                  u.array-is ∙ filled_more h a.args.x at-loop.i at-loop.array at-loop.array at-loop.invariant.1.1.1.1
+                      (filled_sound a.args.shelf at-loop.array a.args.log.now a.args.list.now
+                      (rebuildable_with a.args.shelf a.args.array.now at-loop.array a.args.log.now a.args.list.now a.requires.rebuildable at-loop.invariant.1.0).ready
+                      a.args.x at-loop.i a.requires.x_lt_s low (sym flag ∙ u.if-lost-i.false)),
+                ),
+              ),
+            ),
+          )
+    ]
 
 pub returns-clause-array_after : goal.returns-clause-array_after
 returns-clause-array_after c =

@@ -1,7 +1,7 @@
 -- `shelf::rebuild::rebuild_stripes` meets its contract. The loop's invariant: the first x stripes are rebuilt.
 -- Assumes nothing.
 use mathlib.Core.Path.{◌≡◌, refl, ◌∙◌, ap}
-use Prim.Native.Nat.{◌-◌, zero-le}
+use Prim.Native.Nat.{zero-le}
 use native.Mathlib.Omega.{arith}
 use Rattle.shelf.specs.Lent.{lent}
 use Rattle.shelf.specs.below.Rebuilding.{rebuilt_to}

@@ -16,6 +16,6 @@ returns c =
     let two = three in
     let one = two in
     c.either.ensures ∙ ap₂ ◌||◌ c.outside-7.ensures (six.either-s.ensures ∙ ap₂ ◌||◌ six.outside-6.ensures
-    (five.either5.ensures ∙ ap₂ ◌||◌ five.outside5.ensures (four.either4.ensures ∙ ap₂ ◌||◌ four.outside4.ensures
-    (three.either3.ensures ∙ ap₂ ◌||◌ three.outside3.ensures (two.either2.ensures ∙ ap₂ ◌||◌ two.outside2.ensures
-    (one.either.ensures ∙ ap (λ (t : Bool). ltb 1 one.args.g.layout || t) one.outside.ensures))))))
+    (five.either-b.ensures ∙ ap₂ ◌||◌ five.outside-5.ensures (four.either-l.ensures ∙ ap₂ ◌||◌ four.outside-4.ensures
+    (three.either-h.ensures ∙ ap₂ ◌||◌ three.outside-3.ensures (two.either-e.ensures ∙ ap₂ ◌||◌ two.outside-2.ensures
+    (one.either-layout.ensures ∙ ap (λ (t : Bool). ltb 1 one.args.g.layout || t) one.outside.ensures))))))

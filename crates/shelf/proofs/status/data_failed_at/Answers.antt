@@ -7,7 +7,6 @@ use native.Mathlib.Omega.{arith}
 use lib.ListN.{get_or}
 use Rattle.shelf.proofs.general.WalkLaws.{any_zero, walk_hit, walk_miss}
 use Rattle.shelf.proofs.calls.RebuildLaws.{roles_any}
-use Rattle.shelf.proofs.status.data_failed_at.Invariants.{)}
 use Rattle.shelf.proofs.status.data_failed_at.Goals as goal
 
 pub loop-i-init : goal.loop-i-init
@@ -21,11 +20,11 @@ returns-then-lost-i c =
     ∙ c.loop-i.invariant.1 ∙ roles_any start.args.shelf start.args.x found.result found.ensures
 
 pub loop-i-preserved : goal.loop-i-preserved
-loop-i-preserved c =
-    (
-  omega arith,
-  walk_miss (λ (k : ℕ). get_or c.failed_roles-lost.result k false) c.loop-i.i _ refl c.loop-i-test.true c.if-lost-i.false
-      ∙ c.loop-i.invariant.1,
+loop-i-preserved c = (
+      omega arith,
+      walk_miss (λ (k : ℕ). get_or c.failed_roles-lost.result k false) c.loop-i.i _ refl c.loop-i-test.true c.if-lost-i.false
+          ∙ c.loop-i.invariant.1,
+    )
 
 pub returns : goal.returns
 returns c =

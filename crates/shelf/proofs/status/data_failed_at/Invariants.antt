@@ -7,8 +7,6 @@ use lib.ListN.{get_or}
 use Rattle.shelf.specs.Counting.{any}
 use Rattle.shelf.proofs.status.data_failed_at.Given as goal
 
-pub )
-
 abbrev pub invariant-loop-i : goal.invariant-loop-i
 invariant-loop-i l = (l.i ≤ l.initial.i) × (any l.i (λ k. get_or l.lost k false) ≡ any l.initial.i (λ k. get_or l.lost k false))
 

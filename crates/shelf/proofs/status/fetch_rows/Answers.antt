@@ -3,7 +3,6 @@
 use mathlib.Core.Path.{◌∙◌, refl, sym}
 use Rattle.shelf.specs.Lent.{flag_at, listed_by}
 use Rattle.shelf.specs.Status.{fetch_withheld, row, code_of}
-use Rattle.shelf.proofs.general.TestLaws.{not_on}
 use Rattle.shelf.proofs.calls.ServedLaws.{address-within, none-withheld}
 use Rattle.shelf.proofs.numbers.TableRows.{row_hit, row_pass, blocks-refused, blocks_passed}
 use Rattle.shelf.proofs.status.fetch_rows.Goals as goal
@@ -21,7 +20,7 @@ returns-then-not-log_failed c =
     let r = a.args.shelf in
     let f = fetch_withheld r.geometry (flag_at r) (listed_by r.geometry a.args.list.now) a.args.a a.args.n in
     (blocks_passed r.geometry a.args.a a.args.n a.args.len (row 14 f 0) c.block_rows-code.result c.block_rows-code.ensures c.if-code-ne0.false).1 0
-    (row_pass 14 f 0 0 (none-withheld r a.args.list.now a.requires a.args.a a.args.n (sym c.log_failed.ensures ∙ not_on c.log_failed.result c.if-not-log_failed.true)) refl)
+    (row_pass 14 f 0 0 (none-withheld r a.args.list.now a.requires a.args.a a.args.n (sym c.log_failed.ensures ∙ c.if-not-log_failed.true)) refl)
 
 pub fetch_withheld-requires-clause-list_ready : goal.fetch_withheld-requires-clause-list_ready
 fetch_withheld-requires-clause-list_ready c =

@@ -1,7 +1,7 @@
 -- `shelf::status::fetch_withheld` meets its contract. The loop's invariant: no block from the j-th on is withheld.
 -- Assumes nothing.
 use mathlib.Core.Path.{◌≡◌}
-use Prim.Native.Nat.{◌-◌, ◌≤◌}
+use Prim.Native.Nat.{◌≤◌}
 use Rattle.shelf.specs.Counting.{any}
 use Rattle.shelf.specs.Members.{wanted}
 use Rattle.shelf.specs.Lent.{flag_at, listed_by}

@@ -46,7 +46,7 @@ returns-then-not-check_list c =
     row_pass 1 (bad_measures a.shelf.geometry) _ 3 (sym c.bad_measures.ensures ∙ c.if-bad_measures.false)
     (row_pass 1 (bad_record a.shelf) _ 3 (sym c.bad_record.ensures ∙ c.if-bad_record.false)
     (row_pass 2 (bad_lengths a.shelf.geometry a.array a.log (length a.list.now)) _ 3 (sym c.bad_lengths.ensures ∙ c.if-bad_lengths.false)
-    (row_hit 3 _ _ (ap₂ ◌&&◌ c.if-three.true (ap not (sym c.check_list.ensures) ∙ c.if-not-check_list.true)))))
+    (row_hit 3 _ _ (ap₂ ◌&&◌ c.if-three.true (ap not (sym c.check_list.ensures ∙ c.if-not-check_list.true))))))
 
 pub returns-else-not-check_list : goal.returns-else-not-check_list
 unfolding input_rows
@@ -55,7 +55,7 @@ returns-else-not-check_list c =
     row_pass 1 (bad_measures a.shelf.geometry) _ 0 (sym c.bad_measures.ensures ∙ c.if-bad_measures.false)
     (row_pass 1 (bad_record a.shelf) _ 0 (sym c.bad_record.ensures ∙ c.if-bad_record.false)
     (row_pass 2 (bad_lengths a.shelf.geometry a.array a.log (length a.list.now)) _ 0 (sym c.bad_lengths.ensures ∙ c.if-bad_lengths.false)
-    (row_pass 3 (a.three && bad_list a.shelf a.list.now) 0 0 (ap₂ ◌&&◌ c.if-three.true (ap not (sym c.check_list.ensures) ∙ c.if-not-check_list.false)) refl)))
+    (row_pass 3 (a.three && bad_list a.shelf a.list.now) 0 0 (ap₂ ◌&&◌ c.if-three.true (ap not (sym c.check_list.ensures ∙ c.if-not-check_list.false))) refl)))
 
 pub returns-else-three : goal.returns-else-three
 unfolding input_rows

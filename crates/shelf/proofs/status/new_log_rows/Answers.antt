@@ -10,16 +10,16 @@ use Rattle.shelf.proofs.numbers.TableRows.{row_hit, row_pass}
 use Rattle.shelf.proofs.status.new_log_rows.Goals as goal
 
 pub returns-then-not-log_failed : goal.returns-then-not-log_failed
-returns-then-not-log_failed c = row_hit 12 _ _ (ap not (sym c.log_failed.ensures) ∙ c.if-not-log_failed.true)
+returns-then-not-log_failed c = row_hit 12 _ _ (ap not (sym c.log_failed.ensures ∙ c.if-not-log_failed.true))
 
 pub returns-then-shelf-gt0 : goal.returns-then-shelf-gt0
 returns-then-shelf-gt0 c =
     let r = c.args.shelf in
-    row_pass 12 (log_sound r.geometry (flag_at r)) _ 13 (ap not (sym c.log_failed.ensures) ∙ c.if-not-log_failed.false)
+    row_pass 12 (log_sound r.geometry (flag_at r)) _ 13 (ap not (sym c.log_failed.ensures ∙ c.if-not-log_failed.false))
     (row_hit 13 _ _ (lt-ltb 0 r.listed c.if-shelf-gt0.true))
 
 pub returns : goal.returns
 returns c =
     let r = c.args.shelf in
-    row_pass 12 (log_sound r.geometry (flag_at r)) _ 0 (ap not (sym c.log_failed.ensures) ∙ c.if-not-log_failed.false)
+    row_pass 12 (log_sound r.geometry (flag_at r)) _ 0 (ap not (sym c.log_failed.ensures ∙ c.if-not-log_failed.false))
     (row_pass 13 (ltb 0 r.listed) 0 0 (le-ltb 0 r.listed c.if-shelf-gt0.false) refl)

@@ -22,7 +22,7 @@ returns-then-not-has_failed c =
     let r = c.args.shelf in
     let j = c.args.j in
     row_pass 6 (not_of_array r.geometry j) _ 12 (lt-leb (array_members r.geometry) j (subst (λ (n : ℕ). j < n) c.array_members.ensures c.if-array_members-j.false))
-    (row_hit 12 _ _ (ap not (sym c.has_failed.ensures) ∙ c.if-not-has_failed.true))
+    (row_hit 12 _ _ (ap not (sym c.has_failed.ensures ∙ c.if-not-has_failed.true)))
 
 pub returns : goal.returns
 unfolding code_of
@@ -30,4 +30,4 @@ returns c =
     let r = c.args.shelf in
     let j = c.args.j in
     row_pass 6 (not_of_array r.geometry j) _ 0 (lt-leb (array_members r.geometry) j (subst (λ (n : ℕ). j < n) c.array_members.ensures c.if-array_members-j.false))
-    (row_pass 12 (member_sound (flag_at r) j) 0 0 (ap not (sym c.has_failed.ensures) ∙ c.if-not-has_failed.false) refl)
+    (row_pass 12 (member_sound (flag_at r) j) 0 0 (ap not (sym c.has_failed.ensures ∙ c.if-not-has_failed.false)) refl)

@@ -4,7 +4,6 @@ use mathlib.Core.Path.{◌∙◌, refl, sym}
 use native.Mathlib.Omega.{arith}
 use Rattle.shelf.specs.Lent.{flag_at}
 use Rattle.shelf.specs.Status.{read_failed, row, code_of}
-use Rattle.shelf.proofs.general.TestLaws.{not_on}
 use Rattle.shelf.proofs.calls.ServedLaws.{address-within, none-failed}
 use Rattle.shelf.proofs.numbers.TableRows.{row_hit, row_pass, blocks-refused, blocks_passed}
 use Rattle.shelf.proofs.status.read_rows.Goals as goal
@@ -22,7 +21,7 @@ returns-then-not-array_failed c =
     let r = a.args.shelf in
     let f = read_failed r.geometry (flag_at r) a.args.a a.args.n in
     (blocks_passed r.geometry a.args.a a.args.n a.args.len (row 16 f 0) c.block_rows-code.result c.block_rows-code.ensures c.if-code-ne0.false).1 0
-    (row_pass 16 f 0 0 (none-failed r (omega (arith, a.requires.d_least)) (sym c.array_failed.ensures ∙ not_on c.array_failed.result c.if-not-array_failed.true) a.args.a a.args.n) refl)
+    (row_pass 16 f 0 0 (none-failed r (omega (arith, a.requires.d_least)) (sym c.array_failed.ensures ∙ c.if-not-array_failed.true) a.args.a a.args.n) refl)
 
 pub read_failed-requires-clause-in_range : goal.read_failed-requires-clause-in_range
 read_failed-requires-clause-in_range c =

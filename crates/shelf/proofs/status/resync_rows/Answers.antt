@@ -13,4 +13,4 @@ pub returns : goal.returns
 unfolding code_of
 returns c =
     let r = c.args.shelf in
-    row_pass 7 (is_normal r.mode) _ c.Array-Row.result (ne_eqb r.mode 0 c.if-shelf-eq0.false) c.Array-Row.ensures
+    row_pass 7 (is_normal r.mode) _ c.array_row.result (ne_eqb r.mode 0 c.if-shelf-eq0.false) c.array_row.ensures

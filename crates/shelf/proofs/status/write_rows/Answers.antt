@@ -11,4 +11,4 @@ returns-then-code-ne0 c =
 pub returns : goal.returns
 returns c =
     let a = c.args in
-    (blocks_passed a.shelf.geometry a.a a.n a.len _ c.block_rows-code.result c.block_rows-code.ensures c.if-code-ne0.false).1 c.Array-Row.result c.Array-Row.ensures
+    (blocks_passed a.shelf.geometry a.a a.n a.len _ c.block_rows-code.result c.block_rows-code.ensures c.if-code-ne0.false).1 c.array_row.result c.array_row.ensures

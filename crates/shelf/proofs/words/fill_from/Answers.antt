@@ -1,7 +1,7 @@
 -- `shelf::words::fill_from` meets its contract. The loop's invariant: the words from i on, below j, are none, and the others are as they were.
 -- Assumes nothing.
 use mathlib.Core.Path.{◌≡◌, refl}
-use Prim.Native.Nat.{ℕ, ◌-◌}
+use Prim.Native.Nat.{ℕ}
 use native.Mathlib.Omega.{arith}
 use lib.ListN.{length}
 use Rattle.shelf.specs.Words.{words}
@@ -21,13 +21,13 @@ loop-j-preserved c =
     let st = at-loop in
     let a = st.args in
     let j : ℕ = at-loop.loop-j.j in
-    let same : length c.put_word.new.out ≡ length a.list.now = search rules in (
+    let same : length c.put_word.new.list ≡ length a.list.now = search rules in (
       omega arith,
       (
         λ o. omega arith,
         (
           same,
-          blank_turn a.i j (words a.list.now) (words at-loop.loop-j.list) (words c.put_word.new.out) at-loop.loop-j.invariant.0
+          blank_turn a.i j (words a.list.now) (words at-loop.loop-j.list) (words c.put_word.new.list) at-loop.loop-j.invariant.0
               (words_long a.list.now j (omega arith)) c.put_word.ensures at-loop.loop-j.invariant.1.1.1,
         ),
       ),

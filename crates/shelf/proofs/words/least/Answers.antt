@@ -1,15 +1,15 @@
 -- `shelf::words::least` meets its contract. The loop's invariant: low is 255 where all bytes passed are, and only there.
 -- Assumes nothing.
 use mathlib.Core.List.{List}
-use mathlib.Core.Logic.{⊎_elim}
 use mathlib.Core.Path.{◌≡◌, sym, subst}
-use Prim.Native.Nat.{ℕ, ◌+◌, ◌-◌, ◌<◌}
+use Prim.Native.Nat.{ℕ, ◌+◌, ◌<◌}
 use native.Mathlib.Nat.{add-zero}
 use native.Mathlib.Omega.{arith}
 use lib.ListN.{get_or}
 use Rattle.shelf.specs.below.Checking.{NoneTo}
 use Rattle.shelf.proofs.hashlist.PlaceLaws.{none-start, none_kept, none-lower}
 use Rattle.shelf.proofs.words.least.Goals as goal
+use Rattle.shelf.proofs.words.least.Goals.{then-b-low, else-b-low}
 
 pub loop-t-init : goal.loop-t-init
 loop-t-init c =
@@ -27,10 +27,10 @@ loop-t-preserved c =
     let turned : (v : ℕ) → NoneTo a.list.now a.j (a.j + at-loop.t + 1) v → NoneTo a.list.now a.j (a.j + (at-loop.t + 1)) v =
     λ v. subst (λ (k : ℕ). NoneTo a.list.now a.j k v) one in (
       omega arith,
-      ⊎_elim
-          (λ z. subst (λ (v : ℕ). NoneTo l a.j (a.j + (at-loop.t + 1)) v) (sym z.1) (turned _ (none-lower l a.j j at-loop.low (omega arith) z.0.taken at-loop.invariant.1)))
-          (λ z. subst (λ (v : ℕ). NoneTo l a.j (a.j + (at-loop.t + 1)) v) (sym z.1) (turned _ (none_kept l a.j j at-loop.low (omega arith) z.0.left byte at-loop.invariant.1)))
-          c.if-b-low.branch,
+      elim c.if-b-low.branch [
+        then-b-low z ↦ subst (λ (v : ℕ). NoneTo l a.j (a.j + (at-loop.t + 1)) v) (sym z.low-is) (turned _ (none-lower l a.j j at-loop.low (omega arith) z.if-b-low.true at-loop.invariant.1))
+      | else-b-low z ↦ subst (λ (v : ℕ). NoneTo l a.j (a.j + (at-loop.t + 1)) v) (sym z.low-is) (turned _ (none_kept l a.j j at-loop.low (omega arith) z.if-b-low.false byte at-loop.invariant.1))
+      ],
     )
 
 pub returns : goal.returns

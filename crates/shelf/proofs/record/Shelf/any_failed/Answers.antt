@@ -1,13 +1,13 @@
 -- `shelf::record::Shelf::any_failed` meets its contract: what was found is what the flags looked at so far say.
 -- Assumes nothing.
-use mathlib.Core.Logic.{⊎_elim}
 use mathlib.Core.Path.{◌∙◌, ◌≡◌, ap, sym}
-use Prim.Native.Nat.{◌-◌, ℕ}
+use Prim.Native.Nat.{ℕ}
 use native.Mathlib.Omega.{arith}
 use Rattle.shelf.specs.Counting.{any}
 use Rattle.shelf.specs.Lent.{flag_from}
 use Rattle.shelf.proofs.numbers.FlagLaws.{any-more, any-one, none_before}
 use Rattle.shelf.proofs.record.Shelf.any_failed.Goals as goal
+use Rattle.shelf.proofs.record.Shelf.any_failed.Goals.{then-failed-i, else-failed-i}
 
 pub loop-i-init : goal.loop-i-init
 loop-i-init c = (omega arith, (omega arith, sym (none_before c.args.self.failed c.args.low)))
@@ -18,7 +18,7 @@ loop-i-preserved c =
     let low = c.args.low in
     let i = c.loop-i.i in
     let inv = c.loop-i.invariant in
-    (omega arith, (omega arith, ⊎_elim (λ w. w.1 ∙ any-one fs low i inv.0 w.0.taken) (λ w. w.1 ∙ any-more fs low i c.loop-i.found inv.0 inv.1.1 w.0.left) c.if-failed-i.branch))
+    (omega arith, (omega arith, elim c.if-failed-i.branch [ then-failed-i w ↦ w.found-is ∙ any-one fs low i inv.0 w.if-failed-i.true | else-failed-i w ↦ w.found-is ∙ any-more fs low i c.loop-i.found inv.0 inv.1.1 w.if-failed-i.false ]))
 
 pub returns : goal.returns
 returns c =

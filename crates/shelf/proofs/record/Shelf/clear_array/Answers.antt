@@ -1,7 +1,7 @@
 -- `shelf::record::Shelf::clear_array` meets its contract. The loop's invariant: the flags passed are cleared, the others are as they were.
 -- Assumes nothing.
 use mathlib.Core.Path.{◌≡◌}
-use Prim.Native.Nat.{◌+◌, ◌-◌, ◌<◌}
+use Prim.Native.Nat.{◌+◌, ◌<◌}
 use native.Mathlib.Omega.{arith}
 use lib.ListN.{length}
 use Rattle.shelf.proofs.calls.RebuildLaws.{cleared_none, cleared_turn, cleared_all}

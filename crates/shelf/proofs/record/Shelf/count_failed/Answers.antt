@@ -1,14 +1,14 @@
 -- `shelf::record::Shelf::count_failed` meets its contract: the sum is the count of the flags looked at so far.
 -- Assumes nothing.
 use mathlib.Core.Bool.{Bool, true, false}
-use mathlib.Core.Logic.{⊎_elim}
 use mathlib.Core.Path.{◌≡◌, ap, refl, sym, ◌∙◌}
-use Prim.Native.Nat.{◌-◌, ℕ}
+use Prim.Native.Nat.{ℕ}
 use native.Mathlib.Omega.{arith}
 use Rattle.shelf.specs.Counting.{count}
 use Rattle.shelf.specs.Lent.{flag}
 use Rattle.shelf.proofs.general.WalkLaws.{count_passed, count_left}
 use Rattle.shelf.proofs.record.Shelf.count_failed.Goals as goal
+use Rattle.shelf.proofs.record.Shelf.count_failed.Goals.{then-failed-i, else-failed-i}
 
 pub loop-i-init : goal.loop-i-init
 unfolding count
@@ -21,7 +21,10 @@ loop-i-preserved c =
     let sum = c.loop-i.sum in
     let inv = c.loop-i.invariant in (
       omega arith,
-      ⊎_elim (λ w. (omega arith, w.1 ∙ count_passed i sum f true inv.1.1 (sym w.0.taken) refl)) (λ w. (omega arith, w.1 ∙ count_left i sum f false inv.1.1 (sym w.0.left) refl)) c.if-failed-i.branch,
+      elim c.if-failed-i.branch [
+        then-failed-i w ↦ (omega (arith, w.sum-is), w.sum-is ∙ count_passed i sum f true inv.1.1 (sym w.if-failed-i.true) refl)
+      | else-failed-i w ↦ (omega (arith, w.sum-is), w.sum-is ∙ count_left i sum f false inv.1.1 (sym w.if-failed-i.false) refl)
+      ],
     )
 
 pub returns : goal.returns

@@ -1,7 +1,7 @@
 -- `shelf::record::Shelf::failed_roles` meets its contract. The loop's invariant: the roles passed have the flags of their members in the table.
 -- Assumes nothing.
 use mathlib.Core.Path.{◌∙◌}
-use Prim.Native.Nat.{◌-◌, ◌<◌, zero-le}
+use Prim.Native.Nat.{◌<◌, zero-le}
 use native.Mathlib.Omega.{arith}
 use lib.ListN.{length, length-set}
 use Rattle.shelf.proofs.calls.PlanLaws.{tests_turn}
