@@ -12,7 +12,6 @@ use lib.ListN.{length, take, drop, get_or, replicate, length-replicate}
 use lib.Seq.{length-take-le, take_at}
 use borrow.Author.Tests.{lt-ltb, le-leb, lt-leb, leb-true, not-true, ne_eqb}
 use Rattle.lines.specs.declared.requests.Request.{Request}
-use Rattle.lines.specs.declared.requests.Request.TheVariants as Request
 use Rattle.lines.proofs.TestLaws.{and_left, and_right}
 use Rattle.shelf.specs.Members.{InRange}
 use Rattle.shelf.specs.Status.{Call, write, bad_address, code_of}

@@ -17,7 +17,6 @@ use Rattle.shelf.specs.Lent.{Lent}
 use Rattle.bench.specs.Sessions.{lines_from, held_after, last_line, all_lines, Takes, Transcript, no_lines, one_more, closing, Written, Opened, Feeds, Closes}
 use Rattle.bench.specs.declared.session.Session.{Session}
 use Rattle.bench.specs.declared.session.Stage.{Stage}
-use Rattle.bench.specs.declared.session.Stage.TheVariants as Stage
 use Rattle.bench.proofs.SessionLaws.{lines_by, held_by, transcript_then}
 
 -- ---- lines of two pieces

@@ -3,7 +3,7 @@
 use mathlib.Core.Bool.{true, false, not, false≢true}
 use mathlib.Core.List.{List, ◌++◌}
 use mathlib.Core.Path.{◌≡◌, refl, sym, ap, ◌∙◌, subst}
-use Prim.Native.Nat.{ℕ, ◌+◌, ◌≤◌}
+use Prim.Native.Nat.{ℕ, ◌≤◌}
 use native.Mathlib.Omega.{arith}
 use lib.ListN.{length, take, drop}
 use lib.Seq.{length-take-le, take_at}
@@ -26,7 +26,6 @@ use Rattle.bench.specs.Bench.{geometry_of, fits, Performed, answer_of}
 use Rattle.bench.specs.Sessions.{format_number, Opens, Answers, Taking, lent_parts}
 use Rattle.bench.specs.declared.session.Session.{Session}
 use Rattle.bench.specs.declared.session.Stage.{Stage}
-use Rattle.bench.specs.declared.session.Stage.TheVariants as Stage
 use Rattle.bench.proofs.BenchLaws.{performed-geometry}
 
 -- ---- parts of the buffers

@@ -19,7 +19,6 @@ use Rattle.bench.specs.Sessions.{lines_from, held_after, last_line, Takes, Trans
 use Rattle.bench.specs.declared.input.Taken.{Taken}
 use Rattle.bench.specs.declared.session.Session.{Session}
 use Rattle.bench.specs.declared.session.Stage.{Stage}
-use Rattle.bench.specs.declared.session.Stage.TheVariants as Stage
 
 -- ---- a line that is held
 

@@ -5,7 +5,6 @@ use Rattle.lines.specs.declared.measures.Measures.{Measures}
 use Rattle.lines.specs.declared.measures.Measures.TheVariants.{Six, Unreadable}
 use Rattle.lines.specs.declared.answers.Answer.{Answer}
 use Rattle.lines.specs.declared.requests.Request.{Request}
-use Rattle.lines.specs.declared.requests.Request.TheVariants as Request
 use Rattle.shelf.specs.Status.{Call, start, fail, write, read, fetch, resync, rebuild, new_log, full_resync}
 use Rattle.shelf.specs.Lent.{Lent, bad_measures, array_length, log_length, list_length, state_of, read_buffer, fetch_buffer, Answered}
 use Rattle.shelf.specs.declared.record.Geometry.{Geometry}

@@ -16,7 +16,6 @@ use Rattle.bench.specs.Bench.{geometry_of, fits, Performed, answer_of}
 use Rattle.bench.specs.declared.input.Taken.{Taken}
 use Rattle.bench.specs.declared.session.Session.{Session}
 use Rattle.bench.specs.declared.session.Stage.{Stage}
-use Rattle.bench.specs.declared.session.Stage.TheVariants as Stage
 
 -- ---- the lines of the input
 

@@ -9,7 +9,7 @@ use lines::requests::Request;
 use shelf::record::Shelf;
 
 // What came of a request: the number, the first byte read (0 if none), and the record after it.
-#[derive(Drop)]
+#[derive(Clone, Copy)]
 pub struct Outcome {
     pub code: usize,
     pub first: u8,

@@ -12,26 +12,37 @@ mod session;
 ghost use Rattle.std.specs.Prelude.{◌≡◌, length};
 ghost use Rattle.bench.specs.Sessions.{BufferLengths};
 
-use libc::{STDIN_FILENO, STDOUT_FILENO};
+use std::io;
+use std::io::{Read, Stdin, Stdout, Write};
 
 // The buffers of the input, of the output, of a shelf and of a call's data are made once.
-fn main() {
+fn main(rt: HostRuntime) -> io::Result<()> {
     let mut input = [0u8; 512];
     let mut line = [0u8; 128];
     let mut array = room::buffer();
     let mut log = room::buffer();
     let mut list = room::buffer();
     let mut bytes = room::buffer();
-    let mut out = io::large_buffer();
+    let mut out = room::large_buffer();
     run(
-        &mut input, &mut line, &mut array, &mut log, &mut list, &mut bytes, &mut out,
-    );
+        rt.stdin(),
+        rt.stdout(),
+        &mut input,
+        &mut line,
+        &mut array,
+        &mut log,
+        &mut list,
+        &mut bytes,
+        &mut out,
+    )
 }
 
 // Writes the names of the columns, then takes the input piece by piece and writes what comes of each, up to the input's end or to measures
-// that are refused. A read that fails counts as the end. The turns are counted down from a number that no input uses up, since a loop
-// has to end.
+// that are refused. A read that fails counts as the end; a write that fails ends the program. The pieces are counted up to a number that
+// no input reaches, since a loop has to end.
 fn run(
+    mut from: Stdin,
+    mut to: Stdout,
     input: &mut [u8],
     line: &mut [u8],
     array: &mut [u8],
@@ -39,35 +50,36 @@ fn run(
     list: &mut [u8],
     bytes: &mut [u8],
     out: &mut [u8],
-)
+) -> io::Result<()>
     requires input_len { (length input.old ≡ 512) × (length line.old ≡ 128) }
     requires buffer_lengths { BufferLengths array.old log.old list.old bytes.old }
     requires out_len { length out.old ≡ 65536 }
 {
-    write_columns(out);
+    write_columns(&mut to, out)?;
     let mut session = session::opened();
-    let mut turns = u64::MAX;
-    while turns > 0 {
-        let n = io::count(libc::read(STDIN_FILENO, input), input);
+    for _ in 0..u64::MAX {
+        let n = match from.read(input) {
+            Ok(n) => n,
+            Err(_) => 0,
+        };
         if n == 0 {
             let last = session::close(session, line, array, log, list, bytes, out);
-            io::write_all(STDOUT_FILENO, &out[..last]);
-            return;
+            return to.write_all(&out[..last]);
         }
         session = session::feed(session, &input[..n], line, array, log, list, bytes, out);
         let len = session.len;
-        io::write_all(STDOUT_FILENO, &out[..len]);
+        to.write_all(&out[..len])?;
         if session::is_refused(session) {
-            return;
+            return Ok(());
         }
-        turns -= 1;
     }
+    Ok(())
 }
 
 // Writes the names of the columns.
-fn write_columns(out: &mut [u8])
+fn write_columns(to: &mut Stdout, out: &mut [u8]) -> io::Result<()>
     requires { length out.old ≡ 65536 }
 {
     let n = lines::answers::put_columns(out);
-    io::write_all(STDOUT_FILENO, &out[..n]);
+    to.write_all(&out[..n])
 }

@@ -17,6 +17,13 @@ pub fn buffer() -> [u8; 32768]
     [0; 32768]
 }
 
+// The buffer of the output, of zeros: room for the answers to as many lines as a piece of the input can end.
+pub fn large_buffer() -> [u8; 65536]
+    ensures { 65536 ≡ length result }
+{
+    [0; 65536]
+}
+
 // Whether a geometry is one that format takes, and array, log and list have room.
 pub fn fits(g: Geometry) -> bool
     ensures { result ≡ fits g }

@@ -7,7 +7,7 @@ use shelf::record::{Geometry, Shelf};
 
 // Which line comes next: a line of names, the measures, a second line of names, or a call; or none that is answered, since the measures
 // were refused.
-#[derive(Drop)]
+#[derive(Clone, Copy)]
 pub enum Stage {
     MeasureNames,
     Measures,
@@ -18,7 +18,7 @@ pub enum Stage {
 
 // Where a session stands: its stage, how many bytes are kept of the line that is begun, how many bytes of output came last, and the
 // record of its shelf.
-#[derive(Drop)]
+#[derive(Clone, Copy)]
 pub struct Session {
     pub stage: Stage,
     pub held: usize,

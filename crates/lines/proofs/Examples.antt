@@ -10,9 +10,7 @@ use Rattle.lines.specs.MeasureLines.{measures_of, measures_line}
 use Rattle.lines.specs.AnswerLines.{digits, decimal, spelled, name_of, columns, answer_line, format_line}
 use Rattle.lines.specs.Held.{on_digit, kept_from, kept}
 use Rattle.lines.specs.declared.requests.Request.{Request}
-use Rattle.lines.specs.declared.requests.Request.TheVariants as Request
 use Rattle.lines.specs.declared.measures.Measures.{Measures}
-use Rattle.lines.specs.declared.measures.Measures.TheVariants as Measures
 
 -- a line, and what it should say
 pub data Example : Type 0 where

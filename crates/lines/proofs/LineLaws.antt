@@ -2,7 +2,7 @@
 -- Assumes nothing.
 use mathlib.Core.Bool.{true, false, ◌&&◌}
 use mathlib.Core.List.{List, [], ◌∷◌}
-use mathlib.Core.Logic.{◌⊎◌, ⊎_elim}
+use mathlib.Core.Logic.{⊎_elim}
 use mathlib.Core.Path.{◌≡◌, refl, sym, ap, ◌∙◌, subst}
 use Prim.Native.Nat.{ℕ, zero, suc, ◌+◌, ◌-◌, ◌≤◌, ◌<◌}
 use native.Mathlib.Nat.{sub-zero}
@@ -17,9 +17,7 @@ use Rattle.lines.specs.MeasureLines.{measures_of}
 use Rattle.lines.specs.Walking.{value_of, fields_from, fields_after, Ends, Cuts}
 use Rattle.lines.specs.declared.fields.Field.{Field}
 use Rattle.lines.specs.declared.requests.Request.{Request}
-use Rattle.lines.specs.declared.requests.Request.TheVariants as Request
 use Rattle.lines.specs.declared.measures.Measures.{Measures}
-use Rattle.lines.specs.declared.measures.Measures.TheVariants as Measures
 use Rattle.lines.proofs.TestLaws.{either_way, and_left, and_right}
 use Rattle.lines.proofs.FieldLaws.{grown, fields_full, value_empty}
 

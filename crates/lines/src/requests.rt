@@ -6,7 +6,7 @@ use super::{fields, names};
 
 // What a line asks for: a call with its values. Write has an address, a count and a fill byte, read and fetch an address and a
 // count, fail a member. A line that can't be read asks for none.
-#[derive(Drop)]
+#[derive(Clone, Copy)]
 pub enum Request {
     Start,
     Write(usize, usize, u8),

@@ -57,8 +57,7 @@ pub struct Resynced {
 
 // Sets up a fresh shelf of the record's geometry: array and log all zero, every list word none, mode 0, nothing failed, counts zero.
 // Answers 0; or 1 or 2, and then stores nothing and hands the record back.
-#[unsafe(no_mangle)]
-pub extern "C" fn shelf_format(
+pub fn shelf_format(
     shelf: record::Shelf,
     array: &mut [u8],
     log: &mut [u8],
@@ -83,8 +82,7 @@ pub extern "C" fn shelf_format(
 }
 
 // Goes from mode 0 to mode 1. Answers 0; or the first of 1, 2, 3, 7, 8, 9 that applies. Stores no byte.
-#[unsafe(no_mangle)]
-pub extern "C" fn shelf_start(shelf: record::Shelf, array: &[u8], log: &[u8], list: &[u8]) -> Answer
+pub fn shelf_start(shelf: record::Shelf, array: &[u8], log: &[u8], list: &[u8]) -> Answer
     ensures { Answered (lent shelf array.now log.now list.now) start result.code
         (lent result.shelf array.now log.now list.now) }
 {
@@ -99,8 +97,7 @@ pub extern "C" fn shelf_start(shelf: record::Shelf, array: &[u8], log: &[u8], li
 }
 
 // Notes that a member has failed. Answers 0; or the first of 1, 2, 3, 6, 10, 11 that applies. Stores no byte.
-#[unsafe(no_mangle)]
-pub extern "C" fn shelf_fail(
+pub fn shelf_fail(
     shelf: record::Shelf,
     member: usize,
     array: &[u8],
@@ -123,8 +120,7 @@ pub extern "C" fn shelf_fail(
 // Takes back the report that a member of the array has failed: clears its flag. What is proved of a shelf reached from a fresh one holds
 // where the member's bytes are those that it had when it was reported. Answers 0; or the first of 1, 2, 3, 6, 12 that applies. Stores no
 // byte.
-#[unsafe(no_mangle)]
-pub extern "C" fn shelf_put_back(
+pub fn shelf_put_back(
     shelf: record::Shelf,
     member: usize,
     array: &[u8],
@@ -152,8 +148,7 @@ pub extern "C" fn shelf_put_back(
 
 // Writes count blocks from an address on, out of source, of count times b bytes. Answers 0; or the first of 1, 2, 3, 4, 5, 8 that
 // applies, and then stores nothing.
-#[unsafe(no_mangle)]
-pub extern "C" fn shelf_write(
+pub fn shelf_write(
     shelf: record::Shelf,
     address: usize,
     count: usize,
@@ -179,8 +174,7 @@ pub extern "C" fn shelf_write(
 // The plain read: reads count blocks from an address on into out, of count times b bytes, where they are all on sound disks. Looks at
 // no byte of the log. Answers 0; or the first of 1, 2, 3, 4, 5, 16 that applies, and then out stays as it was. Stores no byte of the
 // shelf.
-#[unsafe(no_mangle)]
-pub extern "C" fn shelf_read(
+pub fn shelf_read(
     shelf: record::Shelf,
     address: usize,
     count: usize,
@@ -206,8 +200,7 @@ pub extern "C" fn shelf_read(
 // The recovering read: reads count blocks from an address on into out, of count times b bytes, those on failed disks from the log or
 // worked back by parity. Answers 0; or the first of 1, 2, 3, 4, 5, 14 that applies, and then out stays as it was. Stores no byte of the
 // shelf.
-#[unsafe(no_mangle)]
-pub extern "C" fn shelf_fetch(
+pub fn shelf_fetch(
     shelf: record::Shelf,
     address: usize,
     count: usize,
@@ -231,13 +224,7 @@ pub extern "C" fn shelf_fetch(
 }
 
 // Takes a new log into use: clears the log's flag. Answers 0; or the first of 1, 2, 3, 12, 13 that applies. Stores no byte.
-#[unsafe(no_mangle)]
-pub extern "C" fn shelf_new_log(
-    shelf: record::Shelf,
-    array: &[u8],
-    log: &[u8],
-    list: &[u8],
-) -> Answer
+pub fn shelf_new_log(shelf: record::Shelf, array: &[u8], log: &[u8], list: &[u8]) -> Answer
     ensures { Answered (lent shelf array.now log.now list.now) new_log result.code
         (lent result.shelf array.now log.now list.now) }
 {
@@ -254,13 +241,7 @@ pub extern "C" fn shelf_new_log(
 
 // Goes to mode 2, makes the parities of the lowest stale stripe, drops its entries, and tells the stripe. Where none is stale it stores
 // nothing, goes to mode 0 and tells s. Answers 0; or the first of 1, 2, 3, 7, 8 that applies, and then stores nothing and tells s.
-#[unsafe(no_mangle)]
-pub extern "C" fn shelf_resync(
-    shelf: record::Shelf,
-    array: &mut [u8],
-    log: &[u8],
-    list: &mut [u8],
-) -> Resynced
+pub fn shelf_resync(shelf: record::Shelf, array: &mut [u8], log: &[u8], list: &mut [u8]) -> Resynced
     ensures answered { Answered (lent shelf array.old log.now list.old) resync result.code
         (lent result.shelf array.new log.now list.new) }
     ensures stripe_value { result.stripe ≡ told_stripe (lent shelf array.old log.now list.old) result.code }
@@ -295,13 +276,7 @@ pub extern "C" fn shelf_resync(
 // Fills every data block on a failed member with what a fetch gives and clears the array's flags. In the stripes with a parity on a
 // failed member all parities are made afresh and the listed blocks are dropped; if no block is left listed, all log records are free
 // and mode 2 ends. Mode 1 remains. Answers 0; or the first of 1, 2, 3, 12, 14 that applies, and then stores nothing.
-#[unsafe(no_mangle)]
-pub extern "C" fn shelf_rebuild(
-    shelf: record::Shelf,
-    array: &mut [u8],
-    log: &[u8],
-    list: &mut [u8],
-) -> Answer
+pub fn shelf_rebuild(shelf: record::Shelf, array: &mut [u8], log: &[u8], list: &mut [u8]) -> Answer
     ensures { Answered (lent shelf array.old log.now list.old) rebuild result.code
         (lent result.shelf array.new log.now list.new) }
 {
@@ -318,8 +293,7 @@ pub extern "C" fn shelf_rebuild(
 
 // Makes the parities of every stripe, empties the list and goes to mode 0. Answers 0; or the first of 1, 2, 8 that applies, and then stores
 // nothing.
-#[unsafe(no_mangle)]
-pub extern "C" fn shelf_full_resync(
+pub fn shelf_full_resync(
     shelf: record::Shelf,
     array: &mut [u8],
     log: &[u8],

@@ -23,8 +23,7 @@ ghost use Rattle.stripe.specs.Calls.{make_code, make_buffer, recover_code, recov
 // Makes the parities of the stripe, and answers 0. Answers 1 where d is not 2 to 16, parities not 1
 // or 2, or b not 1 to 4,096, else 2 where the stripe is not d + parities blocks long, and stores
 // nothing.
-#[unsafe(no_mangle)]
-pub extern "C" fn stripe_make_parity(d: u32, parities: u32, b: u32, stripe: &mut [u8]) -> u32
+pub fn stripe_make_parity(d: u32, parities: u32, b: u32, stripe: &mut [u8]) -> u32
     ensures value { result ≡ make_code d parities b (length stripe.old) }
     ensures stripe_after { stripe.new ≡ make_buffer d parities b stripe.old }
 {
@@ -38,15 +37,7 @@ pub extern "C" fn stripe_make_parity(d: u32, parities: u32, b: u32, stripe: &mut
 // Recovers the members x and y of the stripe from the others, and answers 0; the same member named
 // twice is one missing member. Answers 1 and 2 as stripe_make_parity does, else 6 where x or y is
 // not below d + parities, else 11 where x and y differ and there is one parity, and stores nothing.
-#[unsafe(no_mangle)]
-pub extern "C" fn stripe_recover(
-    d: u32,
-    parities: u32,
-    b: u32,
-    x: u32,
-    y: u32,
-    stripe: &mut [u8],
-) -> u32
+pub fn stripe_recover(d: u32, parities: u32, b: u32, x: u32, y: u32, stripe: &mut [u8]) -> u32
     ensures value { result ≡ recover_code d parities b x y (length stripe.old) }
     ensures stripe_after { stripe.new ≡ recover_buffer d parities b x y stripe.old }
 {

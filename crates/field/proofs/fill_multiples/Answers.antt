@@ -2,7 +2,7 @@
 -- Assumes nothing.
 use mathlib.Core.List.{List}
 use mathlib.Core.Path.{subst, ◌∙◌, ◌≡◌}
-use Prim.Native.Nat.{◌+◌, ℕ, ◌<◌, ◌-◌}
+use Prim.Native.Nat.{◌+◌, ℕ, ◌<◌}
 use native.Mathlib.Nat.{lt_irrefl}
 use native.Mathlib.Omega.{arith}
 use lib.ListN.{set, length-set, length, get_or}

@@ -55,7 +55,7 @@ count-marked d w m true =
     count_add d (λ i. m i || (w i || true)) m (λ i. not (m i)) (λ i. bits_all (m i) (w i))
     ∙ ap (λ (z : ℕ). count d m + z) (count_add d (λ i. not (m i)) (unlisted_written w m) (unlisted_others w m) (λ i. bits_not (m i) (w i)))
 
--- the lesser of x and y is how many are pre_read_lem
+-- the lesser of x and y is how many are pre-read
 lesser-choose : (x y : ℕ) → choose (ltb y x) y x ≡ lesser x y
 unfolding choose lesser
 lesser-choose x y =
@@ -141,7 +141,7 @@ was_listed false true w e l = (refl, refl)
 was_listed false false true e l = clash refl e
 was_listed false false false e l = clash l refl
 
--- only unlisted blocks are pre_read_lem
+-- only unlisted blocks are pre-read
 pre_unlisted : (l w r : Bool) → choose r (not w && not l) (w && not l) ≡ true → l ≡ false
 unfolding choose
 pre_unlisted true true true e = sym e
@@ -157,7 +157,7 @@ marked-written false r w e = ap (λ (z : Bool). z || r) e
 -- ---- the log of a logged stripe
 
 module _ (g : Geometry) (s : State) (t : ℕ) (w : ℕ → Bool) (v : ℕ → List ℕ) where
-  -- the blocks that are pre_read_lem; the log before the originals, and before the latest values
+  -- the blocks that are pre-read; the log before the originals, and before the latest values
   abbrev pr : ℕ → Bool
   pr = pre_read g.d w (listed s.log t)
 
@@ -181,7 +181,7 @@ module _ (g : Geometry) (s : State) (t : ℕ) (w : ℕ → Bool) (v : ℕ → Li
   cur_appended_kept r h =
       let k = ori_appended-kept r (omega (arith, h, ori_appended-next)) in (k.0, k.1 ∙ append_old pr (s.disk t) before g.d r h)
 
-  -- an Ori is a pre_read_lem block's, or from before
+  -- an Ori is a pre-read block's, or from before
   pub ori_cases : {P : Type 0} (i r : ℕ) → i < g.d → (ori_appended g s t w).noted i ≡ some r
       → (pr i ≡ true → (r < (cur_appended g s t w v).next) × ((cur_appended g s t w v).value r ≡ s.disk t i) → P) → (s.log.ori t i ≡ some r → P) → P
   ori_cases i r hi e new old =
@@ -304,7 +304,7 @@ module _ (g : Geometry) (s : State) (b : Book) (A : Agrees g s b) (ok : array_fa
       sound-log : log_failed g s.failed ≡ false
       sound-log = N.one m1
 
-      -- the original of a pre_read_lem block is on its disk
+      -- the original of a pre-read block is on its disk
       pre_read_lem : (i : ℕ) → i < g.d → pre_read g.d w (listed s.log t) i ≡ true → s.disk t i ≡ N.orig t i
       pre_read_lem i hi e =
           let u : l i ≡ false = pre_unlisted (l i) (w i) rc e in

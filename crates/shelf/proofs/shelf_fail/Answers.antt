@@ -19,12 +19,14 @@ returns-then-code-ne0 c =
 pub fail-requires-clause-sized : goal.fail-requires-clause-sized
 fail-requires-clause-sized c =
     let a = c.args in
-    let whole = fail_bounds a.shelf (length a.array.now) (length a.log.now) a.list.now a.member (sym c.if-code-ne0.false ∙ c.number_of-code.ensures) in whole.0
+    let whole = fail_bounds a.shelf (length a.array.now) (length a.log.now) a.list.now a.member (sym c.if-code-ne0.false ∙ c.number_of-code.ensures) in
+    whole.0
 
 pub fail-requires-clause-j_bound : goal.fail-requires-clause-j_bound
 fail-requires-clause-j_bound c =
     let a = c.args in
-    let whole = fail_bounds a.shelf (length a.array.now) (length a.log.now) a.list.now a.member (sym c.if-code-ne0.false ∙ c.number_of-code.ensures) in whole.1
+    let whole = fail_bounds a.shelf (length a.array.now) (length a.log.now) a.list.now a.member (sym c.if-code-ne0.false ∙ c.number_of-code.ensures) in
+    whole.1
 
 pub returns : goal.returns
 returns c =

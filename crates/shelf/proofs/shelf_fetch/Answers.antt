@@ -17,35 +17,34 @@ returns-then-code-ne0-clause-answered c =
     refused_answered (lent a.args.shelf a.args.array.now a.args.log.now a.args.list.now) (fetch a.args.address a.args.count (length a.args.out.now)) c.number_of-code.result c.number_of-code.ensures c.if-code-ne0.true
 
 pub returns-then-code-ne0-clause-out_after : goal.returns-then-code-ne0-clause-out_after
-returns-then-code-ne0-clause-out_after c =
-    let a = c in
-    λ z. absurd (c.if-code-ne0.true z)
+returns-then-code-ne0-clause-out_after c = λ z. absurd (c.if-code-ne0.true z)
 
 pub returns-then-code-ne0-clause-out_unchanged : goal.returns-then-code-ne0-clause-out_unchanged
-returns-then-code-ne0-clause-out_unchanged c =
-    let a = c in
-    λ _. refl
+returns-then-code-ne0-clause-out_unchanged c = λ _. refl
 
 pub fetch_blocks-requires-clause-ready : goal.fetch_blocks-requires-clause-ready
 unfolding number_of tries_list code_of
 fetch_blocks-requires-clause-ready c =
     let a = c in
     let y = blocks-ready a.args.shelf a.args.array.now a.args.log.now a.args.list.now a.args.address a.args.count (length a.args.out.now) _ (sym c.number_of-code.ensures ∙ c.if-code-ne0.false) in
-    let whole = y in whole.0
+    let whole = y in
+    whole.0
 
 pub fetch_blocks-requires-clause-n_bound : goal.fetch_blocks-requires-clause-n_bound
 unfolding number_of tries_list code_of
 fetch_blocks-requires-clause-n_bound c =
     let a = c in
     let y = blocks-ready a.args.shelf a.args.array.now a.args.log.now a.args.list.now a.args.address a.args.count (length a.args.out.now) _ (sym c.number_of-code.ensures ∙ c.if-code-ne0.false) in
-    let whole = y in whole.1.0
+    let whole = y in
+    whole.1.0
 
 pub fetch_blocks-requires-clause-out_len : goal.fetch_blocks-requires-clause-out_len
 unfolding number_of tries_list code_of
 fetch_blocks-requires-clause-out_len c =
     let a = c in
     let y = blocks-ready a.args.shelf a.args.array.now a.args.log.now a.args.list.now a.args.address a.args.count (length a.args.out.now) _ (sym c.number_of-code.ensures ∙ c.if-code-ne0.false) in
-    let whole = y in whole.1.1
+    let whole = y in
+    whole.1.1
 
 pub returns-clause-answered : goal.returns-clause-answered
 unfolding work tries_list
@@ -56,14 +55,8 @@ returns-clause-answered c =
 
 pub returns-clause-out_after : goal.returns-clause-out_after
 unfolding work tries_list
-returns-clause-out_after c =
-    let a = c in
-    let long : length a.args.shelf.failed ≡ 19 = search rules in
-    λ _. c.fetch_blocks.ensures
+returns-clause-out_after c = λ _. c.fetch_blocks.ensures
 
 pub returns-clause-out_unchanged : goal.returns-clause-out_unchanged
 unfolding work tries_list
-returns-clause-out_unchanged c =
-    let a = c in
-    let long : length a.args.shelf.failed ≡ 19 = search rules in
-    λ z. absurd (z refl)
+returns-clause-out_unchanged c = λ z. absurd (z refl)

@@ -19,42 +19,50 @@ returns-then-code-ne0 c =
 pub make_all_parity-requires-clause-le_d : goal.make_all_parity-requires-clause-le_d
 make_all_parity-requires-clause-le_d c =
     let a = c.args in
-    let whole = all_asks a.shelf (length a.array.now) (length a.log.now) a.list.now (sym c.if-code-ne0.false ∙ c.number_of-code.ensures) in whole.0
+    let whole = all_asks a.shelf (length a.array.now) (length a.log.now) a.list.now (sym c.if-code-ne0.false ∙ c.number_of-code.ensures) in
+    whole.0
 
 pub make_all_parity-requires-clause-d_bound : goal.make_all_parity-requires-clause-d_bound
 make_all_parity-requires-clause-d_bound c =
     let a = c.args in
-    let whole = all_asks a.shelf (length a.array.now) (length a.log.now) a.list.now (sym c.if-code-ne0.false ∙ c.number_of-code.ensures) in whole.1.0
+    let whole = all_asks a.shelf (length a.array.now) (length a.log.now) a.list.now (sym c.if-code-ne0.false ∙ c.number_of-code.ensures) in
+    whole.1.0
 
 pub make_all_parity-requires-clause-le_parities : goal.make_all_parity-requires-clause-le_parities
 make_all_parity-requires-clause-le_parities c =
     let a = c.args in
-    let whole = all_asks a.shelf (length a.array.now) (length a.log.now) a.list.now (sym c.if-code-ne0.false ∙ c.number_of-code.ensures) in whole.1.1.0
+    let whole = all_asks a.shelf (length a.array.now) (length a.log.now) a.list.now (sym c.if-code-ne0.false ∙ c.number_of-code.ensures) in
+    whole.1.1.0
 
 pub make_all_parity-requires-clause-parities_bound : goal.make_all_parity-requires-clause-parities_bound
 make_all_parity-requires-clause-parities_bound c =
     let a = c.args in
-    let whole = all_asks a.shelf (length a.array.now) (length a.log.now) a.list.now (sym c.if-code-ne0.false ∙ c.number_of-code.ensures) in whole.1.1.1.0
+    let whole = all_asks a.shelf (length a.array.now) (length a.log.now) a.list.now (sym c.if-code-ne0.false ∙ c.number_of-code.ensures) in
+    whole.1.1.1.0
 
 pub make_all_parity-requires-clause-stripes_bound : goal.make_all_parity-requires-clause-stripes_bound
 make_all_parity-requires-clause-stripes_bound c =
     let a = c.args in
-    let whole = all_asks a.shelf (length a.array.now) (length a.log.now) a.list.now (sym c.if-code-ne0.false ∙ c.number_of-code.ensures) in whole.1.1.1.1.0
+    let whole = all_asks a.shelf (length a.array.now) (length a.log.now) a.list.now (sym c.if-code-ne0.false ∙ c.number_of-code.ensures) in
+    whole.1.1.1.1.0
 
 pub make_all_parity-requires-clause-le_b : goal.make_all_parity-requires-clause-le_b
 make_all_parity-requires-clause-le_b c =
     let a = c.args in
-    let whole = all_asks a.shelf (length a.array.now) (length a.log.now) a.list.now (sym c.if-code-ne0.false ∙ c.number_of-code.ensures) in whole.1.1.1.1.1.0
+    let whole = all_asks a.shelf (length a.array.now) (length a.log.now) a.list.now (sym c.if-code-ne0.false ∙ c.number_of-code.ensures) in
+    whole.1.1.1.1.1.0
 
 pub make_all_parity-requires-clause-b_bound : goal.make_all_parity-requires-clause-b_bound
 make_all_parity-requires-clause-b_bound c =
     let a = c.args in
-    let whole = all_asks a.shelf (length a.array.now) (length a.log.now) a.list.now (sym c.if-code-ne0.false ∙ c.number_of-code.ensures) in whole.1.1.1.1.1.1.0
+    let whole = all_asks a.shelf (length a.array.now) (length a.log.now) a.list.now (sym c.if-code-ne0.false ∙ c.number_of-code.ensures) in
+    whole.1.1.1.1.1.1.0
 
 pub make_all_parity-requires-clause-array_len : goal.make_all_parity-requires-clause-array_len
 make_all_parity-requires-clause-array_len c =
     let a = c.args in
-    let whole = all_asks a.shelf (length a.array.now) (length a.log.now) a.list.now (sym c.if-code-ne0.false ∙ c.number_of-code.ensures) in whole.1.1.1.1.1.1.1
+    let whole = all_asks a.shelf (length a.array.now) (length a.log.now) a.list.now (sym c.if-code-ne0.false ∙ c.number_of-code.ensures) in
+    whole.1.1.1.1.1.1.1
 
 pub returns : goal.returns
 returns c =

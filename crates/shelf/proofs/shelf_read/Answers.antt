@@ -17,14 +17,10 @@ returns-then-code-ne0-clause-answered c =
     refused_answered (lent a.args.shelf a.args.array.now a.args.log.now a.args.list.now) (read a.args.address a.args.count (length a.args.out.now)) c.number_of-code.result c.number_of-code.ensures c.if-code-ne0.true
 
 pub returns-then-code-ne0-clause-out_after : goal.returns-then-code-ne0-clause-out_after
-returns-then-code-ne0-clause-out_after c =
-    let a = c in
-    λ z. absurd (c.if-code-ne0.true z)
+returns-then-code-ne0-clause-out_after c = λ z. absurd (c.if-code-ne0.true z)
 
 pub returns-then-code-ne0-clause-out_unchanged : goal.returns-then-code-ne0-clause-out_unchanged
-returns-then-code-ne0-clause-out_unchanged c =
-    let a = c in
-    λ _. refl
+returns-then-code-ne0-clause-out_unchanged c = λ _. refl
 
 pub read_blocks-requires-clause-in_range : goal.read_blocks-requires-clause-in_range
 unfolding number_of tries_list code_of
@@ -63,14 +59,8 @@ returns-clause-answered c =
 
 pub returns-clause-out_after : goal.returns-clause-out_after
 unfolding state_of work tries_list
-returns-clause-out_after c =
-    let a = c in
-    let long : length a.args.shelf.failed ≡ 19 = search rules in
-    λ _. c.read_blocks.ensures
+returns-clause-out_after c = λ _. c.read_blocks.ensures
 
 pub returns-clause-out_unchanged : goal.returns-clause-out_unchanged
 unfolding state_of work tries_list
-returns-clause-out_unchanged c =
-    let a = c in
-    let long : length a.args.shelf.failed ≡ 19 = search rules in
-    λ z. absurd (z refl)
+returns-clause-out_unchanged c = λ z. absurd (z refl)

@@ -21,17 +21,20 @@ rebuild_array-requires c =
 pub settle-requires-clause-sized : goal.settle-requires-clause-sized
 settle-requires-clause-sized c =
     let a = c.args in
-    let whole = settle_asks a.shelf a.array.now a.log.now a.list.now (sym c.if-code-ne0.false ∙ c.number_of-code.ensures) in whole.0
+    let whole = settle_asks a.shelf a.array.now a.log.now a.list.now (sym c.if-code-ne0.false ∙ c.number_of-code.ensures) in
+    whole.0
 
 pub settle-requires-clause-measures : goal.settle-requires-clause-measures
 settle-requires-clause-measures c =
     let a = c.args in
-    let whole = settle_asks a.shelf a.array.now a.log.now a.list.now (sym c.if-code-ne0.false ∙ c.number_of-code.ensures) in whole.1.0
+    let whole = settle_asks a.shelf a.array.now a.log.now a.list.now (sym c.if-code-ne0.false ∙ c.number_of-code.ensures) in
+    whole.1.0
 
 pub settle-requires-clause-lists : goal.settle-requires-clause-lists
 settle-requires-clause-lists c =
     let a = c.args in
-    let whole = settle_asks a.shelf a.array.now a.log.now a.list.now (sym c.if-code-ne0.false ∙ c.number_of-code.ensures) in whole.1.1
+    let whole = settle_asks a.shelf a.array.now a.log.now a.list.now (sym c.if-code-ne0.false ∙ c.number_of-code.ensures) in
+    whole.1.1
 
 pub returns : goal.returns
 returns c =

@@ -10,23 +10,11 @@ make_own_parity-requires c =
     let code = c.make_code-code in
     make_measures a.d a.parities a.b (length a.stripe.now) code.result code.ensures c.if-code-eq0.true
 
-pub returns-then-code-eq0-clause-value : goal.returns-then-code-eq0-clause-value
-returns-then-code-eq0-clause-value c =
-    let a = c.args in
-    let code = c.make_code-code in
-    code.ensures
-
 pub returns-then-code-eq0-clause-stripe_after : goal.returns-then-code-eq0-clause-stripe_after
 returns-then-code-eq0-clause-stripe_after c =
     let a = c.args in
     let code = c.make_code-code in
     make_done a.d a.parities a.b code.result a.stripe.now _ code.ensures c.if-code-eq0.true c.make_own_parity.ensures
-
-pub returns-else-code-eq0-clause-value : goal.returns-else-code-eq0-clause-value
-returns-else-code-eq0-clause-value c =
-    let a = c.args in
-    let code = c.make_code-code in
-    code.ensures
 
 pub returns-else-code-eq0-clause-stripe_after : goal.returns-else-code-eq0-clause-stripe_after
 returns-else-code-eq0-clause-stripe_after c =

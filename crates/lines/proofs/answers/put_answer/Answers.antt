@@ -7,9 +7,6 @@ use Rattle.lines.specs.AnswerLines.{answer_line, columns}
 use Rattle.lines.proofs.AnswerLaws.{puts_then, puts_text}
 use Rattle.lines.proofs.answers.put_answer.Goals as goal
 
-pub slice_bounds-bytes-end : goal.slice_bounds-bytes-end
-slice_bounds-bytes-end c = c.name_of-name.ensures.len_in_bounds
-
 pub slice_bounds-put_word-end : goal.slice_bounds-put_word-end
 slice_bounds-put_word-end c = sym (length-take-le _ _ c.name_of-name.ensures.len_in_bounds)
 

@@ -2,7 +2,7 @@
 -- Assumes nothing.
 use mathlib.Core.List.{List, [], ◌∷◌, ◌++◌}
 use mathlib.Core.Path.{refl, ap, ◌∙◌}
-use Prim.Native.Nat.{ℕ, ◌+◌, ◌-◌}
+use Prim.Native.Nat.{ℕ}
 use native.Mathlib.Omega.{arith}
 use lib.ListN.{get_or}
 use lib.Seq.{take_all}
@@ -19,7 +19,7 @@ loop-i-preserved c =
     let p = c.put_number-at in
     let ns = c.args.numbers.now in
     let n = get_or ns l.i 0 in
-    let short = decimal_short 19 n (omega (arith, c.shared_slice_known-in-loop-i-1.given l.i)) in (
+    let short = decimal_short 19 n (omega (arith, c.type_inv.numbers l.i)) in (
       (omega arith, (p.auto.out ∙ l.invariant.0.1.0, omega (arith, p.ensures.ends, p.auto.out))),
       puts_text (blanked_more ns l.i (omega arith)) (puts_then (omega arith) l.invariant.1 p.ensures),
     )

@@ -2,7 +2,6 @@
 use lib.ListN.{length-set}
 use lib.Seq.{take_all}
 use mathlib.Core.Path.{refl}
-use Prim.Native.Nat.{◌-◌}
 use native.Mathlib.Omega.{arith}
 use Rattle.lines.proofs.AnswerLaws.{puts_none, puts_byte, puts_then, puts_text, word_more}
 use Rattle.lines.proofs.answers.put_word.Goals as goal
@@ -23,9 +22,6 @@ loop-i-preserved c =
       (omega arith, simp length-set l.invariant.0.1),
       puts_text (word_more w l.i (omega arith)) (puts_then (omega arith) l.invariant.1 (puts_byte l.out l.i _ (omega arith))),
     )
-
-pub shape_of-out : goal.shape_of-out
-shape_of-out c = c.loop-i.invariant.0.1
 
 pub returns : goal.returns
 returns c =

@@ -1,6 +1,5 @@
 -- `lines::fields::field_end` meets its contract. The loop's invariant: the field has the bytes up to i.
 -- Assumes nothing.
-use Prim.Native.Nat.{◌-◌}
 use native.Mathlib.Omega.{arith}
 use Rattle.lines.proofs.FieldLaws.{within-start, within_on, within-blank, within_end}
 use Rattle.lines.proofs.fields.field_end.Goals as goal

@@ -1,7 +1,6 @@
 -- `lines::fields::value_of` meets its contract. The loop's invariant: the value of what is left, after what is read, is the field's.
 -- Assumes nothing.
 use mathlib.Core.Path.{sym, ◌∙◌}
-use Prim.Native.Nat.{◌-◌}
 use native.Mathlib.Omega.{arith}
 use Rattle.lines.proofs.FieldLaws.{value_empty, value-start, value_on, value_off, value_large, value_end, digit_range}
 use Rattle.lines.proofs.fields.value_of.Goals as goal

@@ -8,9 +8,6 @@ use Rattle.lines.proofs.held.fitting.Goals as goal
 pub returns-then-n-le128-clause-value : goal.returns-then-n-le128-clause-value
 returns-then-n-le128-clause-value c = sym (fitting-all _ c.if-n-le128.true)
 
-pub returns-then-n-le128-clause-upper_bound : goal.returns-then-n-le128-clause-upper_bound
-returns-then-n-le128-clause-upper_bound c = c.if-n-le128.true
-
 pub returns-clause-value : goal.returns-clause-value
 returns-clause-value c = sym (fitting-none _ c.if-n-le128.false)
 

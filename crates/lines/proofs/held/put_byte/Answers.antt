@@ -15,9 +15,7 @@ pub overflow_sub-line : goal.overflow_sub-line
 overflow_sub-line c = place_some _ _ _ (sym c.takes_place.ensures ∙ c.if-takes_place.true)
 
 pub returns-then-takes_place-clause-upper_bound : goal.returns-then-takes_place-clause-upper_bound
-returns-then-takes_place-clause-upper_bound c =
-    let a = c.args in
-    omega arith
+returns-then-takes_place-clause-upper_bound c = omega arith
 
 pub returns-then-takes_place-clause-extends : goal.returns-then-takes_place-clause-extends
 returns-then-takes_place-clause-extends c =
@@ -25,9 +23,7 @@ returns-then-takes_place-clause-extends c =
     extends_place a.line.now a.n a.x (omega arith) (omega arith) (sym c.takes_place.ensures ∙ c.if-takes_place.true)
 
 pub returns-then-n-eq128-clause-upper_bound : goal.returns-then-n-eq128-clause-upper_bound
-returns-then-n-eq128-clause-upper_bound c =
-    let a = c.args in
-    omega arith
+returns-then-n-eq128-clause-upper_bound c = omega arith
 
 pub returns-then-n-eq128-clause-extends : goal.returns-then-n-eq128-clause-extends
 returns-then-n-eq128-clause-extends c =
@@ -35,9 +31,7 @@ returns-then-n-eq128-clause-extends c =
     extends_full a.line.now a.n a.x (sym c.takes_place.ensures ∙ c.if-takes_place.false) (omega arith) (omega arith)
 
 pub returns-clause-upper_bound : goal.returns-clause-upper_bound
-returns-clause-upper_bound c =
-    let a = c.args in
-    omega arith
+returns-clause-upper_bound c = omega arith
 
 pub returns-clause-extends : goal.returns-clause-extends
 returns-clause-extends c =

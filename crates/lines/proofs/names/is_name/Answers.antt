@@ -1,7 +1,6 @@
 -- `lines::names::is_name` meets its contract. The loop's invariant: what is left of both is the same where the whole is.
 -- Assumes nothing.
 use mathlib.Core.Path.{refl, sym, ◌∙◌}
-use Prim.Native.Nat.{◌-◌}
 use native.Mathlib.Omega.{arith}
 use Rattle.lines.proofs.NameLaws.{same-lengths, same_on, same_off, same_end}
 use Rattle.lines.proofs.names.is_name.Goals as goal

@@ -13,23 +13,11 @@ use Rattle.shelf.proofs.hashlist.AlterLaws.{closed-ready, closed-rewritten}
 use borrow.Author.Rules.{rules}
 use Rattle.shelf.proofs.alter.drop_lost.Goals as goal
 
-pub close_up_lost-m-requires-clause-measures : goal.close_up_lost-m-requires-clause-measures
-close_up_lost-m-requires-clause-measures c =
-    let st = c in
-    let a = st.args in
-    st.requires.measures
-
 pub close_up_lost-m-requires-clause-n_le_e : goal.close_up_lost-m-requires-clause-n_le_e
 close_up_lost-m-requires-clause-n_le_e c =
     let st = c in
     let a = st.args in
     lists-room a.list.now a.shelf.geometry a.shelf.listed st.requires.measures st.requires.lists
-
-pub close_up_lost-m-requires-clause-sized : goal.close_up_lost-m-requires-clause-sized
-close_up_lost-m-requires-clause-sized c =
-    let st = c in
-    let a = st.args in
-    st.requires.sized
 
 pub relink-requires-clause-measures : goal.relink-requires-clause-measures
 relink-requires-clause-measures c =
@@ -41,7 +29,8 @@ relink-requires-clause-measures c =
     let w : List ℕ = words a.list.now in
     let r = c.close_up_lost-m in
     let len : length r.new.list ≡ length a.list.now = search rules in
-    let whole = closed-ready w g v.next a.shelf.listed m.h0 m.d0 m.e1 v.passing r.result a.list.now r.new.list m len r.ensures.upper_bound r.ensures.kept_from in whole.0
+    let whole = closed-ready w g v.next a.shelf.listed m.h0 m.d0 m.e1 v.passing r.result a.list.now r.new.list m len r.ensures.upper_bound r.ensures.kept_from in
+    whole.0
 
 pub relink-requires-clause-m_le_e : goal.relink-requires-clause-m_le_e
 relink-requires-clause-m_le_e c =
@@ -53,7 +42,8 @@ relink-requires-clause-m_le_e c =
     let w : List ℕ = words a.list.now in
     let r = c.close_up_lost-m in
     let len : length r.new.list ≡ length a.list.now = search rules in
-    let whole = closed-ready w g v.next a.shelf.listed m.h0 m.d0 m.e1 v.passing r.result a.list.now r.new.list m len r.ensures.upper_bound r.ensures.kept_from in whole.1.0
+    let whole = closed-ready w g v.next a.shelf.listed m.h0 m.d0 m.e1 v.passing r.result a.list.now r.new.list m len r.ensures.upper_bound r.ensures.kept_from in
+    whole.1.0
 
 pub relink-requires-clause-n_le_e : goal.relink-requires-clause-n_le_e
 relink-requires-clause-n_le_e c =
@@ -65,7 +55,8 @@ relink-requires-clause-n_le_e c =
     let w : List ℕ = words a.list.now in
     let r = c.close_up_lost-m in
     let len : length r.new.list ≡ length a.list.now = search rules in
-    let whole = closed-ready w g v.next a.shelf.listed m.h0 m.d0 m.e1 v.passing r.result a.list.now r.new.list m len r.ensures.upper_bound r.ensures.kept_from in whole.1.1.0
+    let whole = closed-ready w g v.next a.shelf.listed m.h0 m.d0 m.e1 v.passing r.result a.list.now r.new.list m len r.ensures.upper_bound r.ensures.kept_from in
+    whole.1.1.0
 
 pub relink-requires-clause-none_behind : goal.relink-requires-clause-none_behind
 relink-requires-clause-none_behind c =
@@ -77,7 +68,8 @@ relink-requires-clause-none_behind c =
     let w : List ℕ = words a.list.now in
     let r = c.close_up_lost-m in
     let len : length r.new.list ≡ length a.list.now = search rules in
-    let whole = closed-ready w g v.next a.shelf.listed m.h0 m.d0 m.e1 v.passing r.result a.list.now r.new.list m len r.ensures.upper_bound r.ensures.kept_from in whole.1.1.1
+    let whole = closed-ready w g v.next a.shelf.listed m.h0 m.d0 m.e1 v.passing r.result a.list.now r.new.list m len r.ensures.upper_bound r.ensures.kept_from in
+    whole.1.1.1
 
 pub returns : goal.returns
 returns c =

@@ -19,18 +19,7 @@ overflow_mul-first c =
     let a = st.args in
     let g : Geometry = a.g in
     let m = st.requires.measures in
-    let v = st.requires.lists in
     omega (arith, address-low g.d g.s a.x m.d1 m.s1 st.requires.x_lt_s)
-
-pub first_from-p-requires-clause-measures : goal.first_from-p-requires-clause-measures
-first_from-p-requires-clause-measures c =
-    let st = c in
-    st.requires.measures
-
-pub first_from-p-requires-clause-lists : goal.first_from-p-requires-clause-lists
-first_from-p-requires-clause-lists c =
-    let st = c in
-    st.requires.lists
 
 pub overflow_add-first : goal.overflow_add-first
 overflow_add-first c =
@@ -38,18 +27,7 @@ overflow_add-first c =
     let a = st.args in
     let g : Geometry = a.g in
     let m = st.requires.measures in
-    let v = st.requires.lists in
     omega (arith, address-low g.d g.s a.x m.d1 m.s1 st.requires.x_lt_s, m.d1)
-
-pub first_from-q-requires-clause-measures : goal.first_from-q-requires-clause-measures
-first_from-q-requires-clause-measures c =
-    let st = c in
-    st.requires.measures
-
-pub first_from-q-requires-clause-lists : goal.first_from-q-requires-clause-lists
-first_from-q-requires-clause-lists c =
-    let st = c in
-    st.requires.lists
 
 pub returns-then-q-p : goal.returns-then-q-p
 returns-then-q-p c =
@@ -65,28 +43,6 @@ returns-then-q-p c =
     (out_rewritten (words a.list.now) g v.next a.n m.h0 m.d0 m.e1 v.passing a.x p.result q.result p.ensures q.ensures a.list.now
     (none_out (words a.list.now) g v.next a.n m.h0 m.d0 m.e1 v.passing a.x p.result q.result p.ensures q.ensures c.if-q-p.true) m.len (λ i. omega (arith, c.slice_known-1.given i)))
 
-pub take_out-requires-clause-measures : goal.take_out-requires-clause-measures
-take_out-requires-clause-measures c =
-    let st = c in
-    let a = st.args in
-    let g : Geometry = a.g in
-    let m = st.requires.measures in
-    let v = st.requires.lists in
-    let p = c.first_from-p in
-    let q = c.first_from-q in
-    m
-
-pub take_out-requires-clause-lists : goal.take_out-requires-clause-lists
-take_out-requires-clause-lists c =
-    let st = c in
-    let a = st.args in
-    let g : Geometry = a.g in
-    let m = st.requires.measures in
-    let v = st.requires.lists in
-    let p = c.first_from-p in
-    let q = c.first_from-q in
-    v
-
 pub take_out-requires-clause-p_le_q : goal.take_out-requires-clause-p_le_q
 take_out-requires-clause-p_le_q c =
     let st = c in
@@ -97,17 +53,6 @@ take_out-requires-clause-p_le_q c =
     let p = c.first_from-p in
     let q = c.first_from-q in
     first_order (words a.list.now) g v.next a.n m.h0 m.d0 m.e1 v.passing a.x p.result q.result p.ensures q.ensures
-
-pub take_out-requires-clause-q_le_n : goal.take_out-requires-clause-q_le_n
-take_out-requires-clause-q_le_n c =
-    let st = c in
-    let a = st.args in
-    let g : Geometry = a.g in
-    let m = st.requires.measures in
-    let v = st.requires.lists in
-    let p = c.first_from-p in
-    let q = c.first_from-q in
-    q.ensures.within
 
 pub overflow_sub-result : goal.overflow_sub-result
 overflow_sub-result c =

@@ -10,28 +10,12 @@ use Rattle.shelf.proofs.hashlist.LinkLaws.{left_lists, left_clean, left_room, le
 use borrow.Author.Rules.{rules}
 use Rattle.shelf.proofs.alter.move_stripe.Goals as goal
 
-pub drop_stripe-m-requires-clause-measures : goal.drop_stripe-m-requires-clause-measures
-drop_stripe-m-requires-clause-measures c =
-    let st = c in
-    st.requires.measures
-
-pub drop_stripe-m-requires-clause-lists : goal.drop_stripe-m-requires-clause-lists
-drop_stripe-m-requires-clause-lists c =
-    let st = c in
-    st.requires.lists
-
-pub drop_stripe-m-requires-clause-x_lt_s : goal.drop_stripe-m-requires-clause-x_lt_s
-drop_stripe-m-requires-clause-x_lt_s c =
-    let st = c in
-    st.requires.replaces.there
-
 pub put_in-requires-clause-measures : goal.put_in-requires-clause-measures
 put_in-requires-clause-measures c =
     let st = c in
     let a = st.args in
     let g : Geometry = a.g in
     let m = st.requires.measures in
-    let v = st.requires.lists in
     let r = c.drop_stripe-m in
     let len : length r.new.list ≡ 4 * (g.h + 4 * g.e) = search rules in
     record { d0 = m.d0; d1 = m.d1; s1 = m.s1; h0 = m.h0; h1 = m.h1; e0 = m.e0; e1 = m.e1; len = len }
@@ -44,7 +28,6 @@ put_in-requires-clause-lists c =
     let m = st.requires.measures in
     let v = st.requires.lists in
     let r = c.drop_stripe-m in
-    let len : length r.new.list ≡ 4 * (g.h + 4 * g.e) = search rules in
     left_lists (words a.list.now) g v.next a.n m.h0 m.d0 m.e1 v.passing a.x a.c r.result a.y.now r.new.list st.requires.replaces r.ensures
 
 pub put_in-requires-clause-c_bound : goal.put_in-requires-clause-c_bound
@@ -55,7 +38,6 @@ put_in-requires-clause-c_bound c =
     let m = st.requires.measures in
     let v = st.requires.lists in
     let r = c.drop_stripe-m in
-    let len : length r.new.list ≡ 4 * (g.h + 4 * g.e) = search rules in
     left_room (words a.list.now) g v.next a.n m.h0 m.d0 m.e1 v.passing a.x a.c r.result a.y.now r.new.list st.requires.replaces r.ensures
 
 pub put_in-requires-clause-replaces : goal.put_in-requires-clause-replaces
@@ -66,7 +48,6 @@ put_in-requires-clause-replaces c =
     let m = st.requires.measures in
     let v = st.requires.lists in
     let r = c.drop_stripe-m in
-    let len : length r.new.list ≡ 4 * (g.h + 4 * g.e) = search rules in
     left_replaces (words a.list.now) g v.next a.n m.h0 m.d0 m.e1 v.passing a.x a.c r.result a.y.now r.new.list st.requires.replaces r.ensures
 
 pub put_in-requires-clause-g_value : goal.put_in-requires-clause-g_value
@@ -77,7 +58,6 @@ put_in-requires-clause-g_value c =
     let m = st.requires.measures in
     let v = st.requires.lists in
     let r = c.drop_stripe-m in
-    let len : length r.new.list ≡ 4 * (g.h + 4 * g.e) = search rules in
     left_clean (words a.list.now) g v.next a.n m.h0 m.d0 m.e1 v.passing a.x a.c r.result a.y.now r.new.list st.requires.replaces r.ensures
 
 pub overflow_add-result : goal.overflow_add-result

@@ -25,26 +25,12 @@ overflow_mul-x-2 c = let st = c in omega (arith, address-low st.args.g.d st.args
 pub overflow_add-x : goal.overflow_add-x
 overflow_add-x c = let st = c in omega (arith, address-low st.args.g.d st.args.g.s st.args.x st.requires.measures.d1 st.requires.measures.s1 st.requires.replaces.there, st.requires.measures.d1)
 
-pub stand_in-requires-clause-p_le_n : goal.stand_in-requires-clause-p_le_n
-stand_in-requires-clause-p_le_n c =
-    let st = c in
-    let m = st.requires.measures in
-    let r = lists-room st.args.list.now st.args.g st.args.n st.requires.measures st.requires.lists in
-    c.first_from-p.ensures.within
-
 pub stand_in-requires-clause-c_bound : goal.stand_in-requires-clause-c_bound
 stand_in-requires-clause-c_bound c =
     let st = c in
     let m = st.requires.measures in
     let r = lists-room st.args.list.now st.args.g st.args.n st.requires.measures st.requires.lists in
     omega (arith, st.requires.replaces.room, m.e1)
-
-pub stand_in-requires-clause-h_bound : goal.stand_in-requires-clause-h_bound
-stand_in-requires-clause-h_bound c =
-    let st = c in
-    let m = st.requires.measures in
-    let r = lists-room st.args.list.now st.args.g st.args.n st.requires.measures st.requires.lists in
-    m.h1
 
 pub stand_in-requires-clause-n_bound : goal.stand_in-requires-clause-n_bound
 stand_in-requires-clause-n_bound c =
@@ -60,52 +46,12 @@ stand_in-requires-clause-n_in_bounds c =
     let r = lists-room st.args.list.now st.args.g st.args.n st.requires.measures st.requires.lists in
     omega (arith, r, m.len)
 
-pub stand_in-requires-clause-c_in_bounds : goal.stand_in-requires-clause-c_in_bounds
-stand_in-requires-clause-c_in_bounds c =
-    let st = c in
-    let m = st.requires.measures in
-    let r = lists-room st.args.list.now st.args.g st.args.n st.requires.measures st.requires.lists in
-    st.requires.replaces.long
-
 pub put_places-requires-clause-c_bound : goal.put_places-requires-clause-c_bound
 put_places-requires-clause-c_bound c =
     let st = c in
-    let m = st.requires.measures in
     let r = lists-room st.args.list.now st.args.g st.args.n st.requires.measures st.requires.lists in
     let i = c.stand_in.ensures c.if-stand_in.true in
     omega (arith, r, i.within)
-
-pub put_places-requires-clause-h_bound : goal.put_places-requires-clause-h_bound
-put_places-requires-clause-h_bound c =
-    let st = c in
-    let m = st.requires.measures in
-    let r = lists-room st.args.list.now st.args.g st.args.n st.requires.measures st.requires.lists in
-    let i = c.stand_in.ensures c.if-stand_in.true in
-    m.h1
-
-pub put_places-requires-clause-e_bound : goal.put_places-requires-clause-e_bound
-put_places-requires-clause-e_bound c =
-    let st = c in
-    let m = st.requires.measures in
-    let r = lists-room st.args.list.now st.args.g st.args.n st.requires.measures st.requires.lists in
-    let i = c.stand_in.ensures c.if-stand_in.true in
-    m.e1
-
-pub put_places-requires-clause-list_len : goal.put_places-requires-clause-list_len
-put_places-requires-clause-list_len c =
-    let st = c in
-    let m = st.requires.measures in
-    let r = lists-room st.args.list.now st.args.g st.args.n st.requires.measures st.requires.lists in
-    let i = c.stand_in.ensures c.if-stand_in.true in
-    m.len
-
-pub put_places-requires-clause-c_in_bounds : goal.put_places-requires-clause-c_in_bounds
-put_places-requires-clause-c_in_bounds c =
-    let st = c in
-    let m = st.requires.measures in
-    let r = lists-room st.args.list.now st.args.g st.args.n st.requires.measures st.requires.lists in
-    let i = c.stand_in.ensures c.if-stand_in.true in
-    st.requires.replaces.long
 
 pub returns-then-stand_in : goal.returns-then-stand_in
 returns-then-stand_in c =
@@ -131,15 +77,3 @@ returns-then-stand_in c =
             a.x a.c p.result a.y.now p.ensures i st.requires.replaces.segment f.ensures.filled,
       ),
     )
-
-pub move_stripe-requires-clause-measures : goal.move_stripe-requires-clause-measures
-move_stripe-requires-clause-measures c = c.requires.measures
-
-pub move_stripe-requires-clause-lists : goal.move_stripe-requires-clause-lists
-move_stripe-requires-clause-lists c = c.requires.lists
-
-pub move_stripe-requires-clause-replaces : goal.move_stripe-requires-clause-replaces
-move_stripe-requires-clause-replaces c = c.requires.replaces
-
-pub returns : goal.returns
-returns c = c.move_stripe.ensures

@@ -26,21 +26,6 @@ overflow_mul-x c = let st = c in omega (arith, address-low st.args.g.d st.args.g
 pub overflow_add-x : goal.overflow_add-x
 overflow_add-x c = let st = c in omega (arith, address-low st.args.g.d st.args.g.s st.args.x st.requires.measures.d1 st.requires.measures.s1 st.requires.x_lt_s)
 
-pub said_from-said-requires-clause-measures : goal.said_from-said-requires-clause-measures
-said_from-said-requires-clause-measures c =
-    let st = c in
-    st.requires.measures
-
-pub said_from-said-requires-clause-lists : goal.said_from-said-requires-clause-lists
-said_from-said-requires-clause-lists c =
-    let st = c in
-    st.requires.lists
-
-pub said_from-said-requires-clause-first_from : goal.said_from-said-requires-clause-first_from
-said_from-said-requires-clause-first_from c =
-    let st = c in
-    c.loop-i.invariant.1.1.1.0
-
 pub loop-i-preserved : goal.loop-i-preserved
 loop-i-preserved c =
     let a = c.args in

@@ -18,16 +18,3 @@ pub entries_from-requires-clause-lists : goal.entries_from-requires-clause-lists
 entries_from-requires-clause-lists c =
     let st = c in
     record { next = st.args.shelf.next; passing = st.requires.list_ready.valid }
-
-pub entries_from-requires-clause-x_lt_s : goal.entries_from-requires-clause-x_lt_s
-entries_from-requires-clause-x_lt_s c =
-    let st = c in
-    st.requires.x_lt_s
-
-pub entries_from-requires-clause-first_from : goal.entries_from-requires-clause-first_from
-entries_from-requires-clause-first_from c =
-    let st = c in
-    c.first_from-p.ensures
-
-pub returns : goal.returns
-returns c = c.entries_from.ensures

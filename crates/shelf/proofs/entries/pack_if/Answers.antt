@@ -16,9 +16,7 @@ returns-then-picked-clause-value c =
 
 pub returns-then-picked-clause-slice_after : goal.returns-then-picked-clause-slice_after
 unfolding bit
-returns-then-picked-clause-slice_after c =
-    let n = c.args.n in
-    c.pack_entry.ensures ∙ sym (choose_true _ _ _ c.if-picked.true)
+returns-then-picked-clause-slice_after c = c.pack_entry.ensures ∙ sym (choose_true _ _ _ c.if-picked.true)
 
 pub returns-clause-value : goal.returns-clause-value
 unfolding bit
@@ -29,7 +27,4 @@ returns-clause-value c =
 
 pub returns-clause-slice_after : goal.returns-clause-slice_after
 unfolding bit
-returns-clause-slice_after c =
-    let n = c.args.n in
-    let none : n + bit c.args.picked ≡ n + 0 = ap (λ (z : Bool). n + bit z) c.if-picked.false in
-    sym (choose_false _ _ _ c.if-picked.false)
+returns-clause-slice_after c = sym (choose_false _ _ _ c.if-picked.false)

@@ -19,49 +19,10 @@ use Rattle.shelf.proofs.entries.relist.Goals as goal
 pub overflow_mul-x : goal.overflow_mul-x
 overflow_mul-x c = let st = c in omega (arith, address-low st.args.g.d st.args.g.s st.args.x st.requires.measures.d1 st.requires.measures.s1 st.requires.stripe)
 
-pub pack_entries-c-requires-clause-d_bound : goal.pack_entries-c-requires-clause-d_bound
-pack_entries-c-requires-clause-d_bound c =
-    let st = c in
-    st.requires.measures.d1
-
 pub pack_entries-c-requires-clause-base_bound : goal.pack_entries-c-requires-clause-base_bound
 pack_entries-c-requires-clause-base_bound c =
     let st = c in
     omega (arith, address-low st.args.g.d st.args.g.s st.args.x st.requires.measures.d1 st.requires.measures.s1 st.requires.stripe)
-
-pub pack_entries-c-requires-clause-are_words : goal.pack_entries-c-requires-clause-are_words
-pack_entries-c-requires-clause-are_words c =
-    let st = c in
-    st.requires.ori
-
-pub pack_entries-c-requires-clause-are_words_2 : goal.pack_entries-c-requires-clause-are_words_2
-pack_entries-c-requires-clause-are_words_2 c =
-    let st = c in
-    st.requires.cur
-
-pub replace_stripe-requires-clause-measures : goal.replace_stripe-requires-clause-measures
-replace_stripe-requires-clause-measures c =
-    let st = c in
-    let a = st.args in
-    let o = numbered a.entries.ori in
-    let u = numbered a.entries.cur in
-    let r = c.pack_entries-c in
-    let y : List ℕ = r.new.slice in
-    let s = segment_of a.g.d a.x r.result (tested c.listed_of-listed.result) (is_listed o u) o u y c.listed_of-listed.ensures r.ensures.value r.ensures.packed in
-    let long : length y ≡ 48 = search rules in
-    st.requires.measures
-
-pub replace_stripe-requires-clause-lists : goal.replace_stripe-requires-clause-lists
-replace_stripe-requires-clause-lists c =
-    let st = c in
-    let a = st.args in
-    let o = numbered a.entries.ori in
-    let u = numbered a.entries.cur in
-    let r = c.pack_entries-c in
-    let y : List ℕ = r.new.slice in
-    let s = segment_of a.g.d a.x r.result (tested c.listed_of-listed.result) (is_listed o u) o u y c.listed_of-listed.ensures r.ensures.value r.ensures.packed in
-    let long : length y ≡ 48 = search rules in
-    st.requires.lists
 
 pub replace_stripe-requires-clause-replaces : goal.replace_stripe-requires-clause-replaces
 replace_stripe-requires-clause-replaces c =

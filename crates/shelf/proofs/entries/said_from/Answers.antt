@@ -52,7 +52,6 @@ returns-then-address-a-clause-first_from_2 c =
     let w : List ℕ = words a.list.now in
     let here : a.p < a.n = c.if-p-n.true in
     let hit : address_at w a.g.h a.p ≡ a.a = sym c.address.ensures.value ∙ c.if-address-a.true in
-    let is = said_here w a.g v.next a.n m.h0 m.d0 m.e1 v.passing a.a a.p st.requires.first_from here hit in
     first_past w a.g v.next a.n m.h0 m.d0 m.e1 v.passing a.a a.p st.requires.first_from here hit
 
 pub returns-else-address-a-clause-ori_value : goal.returns-else-address-a-clause-ori_value
@@ -85,7 +84,6 @@ returns-else-address-a-clause-first_from_2 c =
     let v = st.requires.lists in
     let w : List ℕ = words a.list.now in
     let ne : a.p < a.n → address_at w a.g.h a.p ≢ a.a = λ o e. c.if-address-a.false (c.address.ensures.value ∙ e) in
-    let is = said_nowhere w a.g v.next a.n m.h0 m.d0 m.e1 v.passing a.a a.p st.requires.first_from ne in
     first_stays w a.g v.next a.n m.h0 m.d0 m.e1 v.passing a.a a.p st.requires.first_from ne
 
 pub returns-else-p-n-clause-ori_value : goal.returns-else-p-n-clause-ori_value
@@ -118,5 +116,4 @@ returns-else-p-n-clause-first_from_2 c =
     let v = st.requires.lists in
     let w : List ℕ = words a.list.now in
     let ne : a.p < a.n → address_at w a.g.h a.p ≢ a.a = λ o. absurd (omega (arith, o, c.if-p-n.false)) in
-    let is = said_nowhere w a.g v.next a.n m.h0 m.d0 m.e1 v.passing a.a a.p st.requires.first_from ne in
     first_stays w a.g v.next a.n m.h0 m.d0 m.e1 v.passing a.a a.p st.requires.first_from ne

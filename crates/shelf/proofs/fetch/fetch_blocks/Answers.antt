@@ -13,26 +13,6 @@ use Rattle.shelf.proofs.fetch.fetch_blocks.Goals as goal
 pub array_failed-requires : goal.array_failed-requires
 array_failed-requires c = sized c.requires.ready.listing.range
 
-pub read_blocks-requires-clause-in_range : goal.read_blocks-requires-clause-in_range
-read_blocks-requires-clause-in_range c =
-    let a = c in
-    a.requires.ready.listing.range
-
-pub read_blocks-requires-clause-array_len : goal.read_blocks-requires-clause-array_len
-read_blocks-requires-clause-array_len c =
-    let a = c in
-    a.requires.ready.array
-
-pub read_blocks-requires-clause-n_bound : goal.read_blocks-requires-clause-n_bound
-read_blocks-requires-clause-n_bound c =
-    let a = c in
-    a.requires.n_bound
-
-pub read_blocks-requires-clause-out_len : goal.read_blocks-requires-clause-out_len
-read_blocks-requires-clause-out_len c =
-    let a = c in
-    a.requires.out_len
-
 pub returns-then-not-array_failed : goal.returns-then-not-array_failed
 unfolding state_of
 returns-then-not-array_failed c =
@@ -41,9 +21,6 @@ returns-then-not-array_failed c =
     c.read_blocks.ensures
     ∙ sound_as_fetch r.geometry (state_of (lent a.args.shelf a.args.array.now a.args.log.now a.args.list.now)) a.args.a a.args.n
     (λ j _. wanted-sound r (omega (arith, a.requires.ready.listing.range.d_least)) (sym c.array_failed.ensures ∙ c.if-not-array_failed.true) a.args.a j)
-
-pub slice_bounds-work-end : goal.slice_bounds-work-end
-slice_bounds-work-end c = c.requires.ready.listing.range.b_most
 
 pub slice_bounds-fetch_each-end : goal.slice_bounds-fetch_each-end
 slice_bounds-fetch_each-end c =
@@ -54,16 +31,3 @@ pub fetch_each-requires-clause-working : goal.fetch_each-requires-clause-working
 fetch_each-requires-clause-working c =
     let a = c in
     record { ready = a.requires.ready; block = length-take-le a.args.shelf.geometry.b _ a.requires.ready.listing.range.b_most; products = no_products }
-
-pub fetch_each-requires-clause-n_bound : goal.fetch_each-requires-clause-n_bound
-fetch_each-requires-clause-n_bound c =
-    let a = c in
-    a.requires.n_bound
-
-pub fetch_each-requires-clause-out_len : goal.fetch_each-requires-clause-out_len
-fetch_each-requires-clause-out_len c =
-    let a = c in
-    a.requires.out_len
-
-pub returns : goal.returns
-returns c = c.fetch_each.ensures

@@ -29,16 +29,7 @@ spot_of-spot-requires c = omega (arith, c.requires.working.ready.listing.range.d
 pub fetch_stripe-requires-clause-working : goal.fetch_stripe-requires-clause-working
 fetch_stripe-requires-clause-working c =
     let a = c in
-    let g = a.args.shelf.geometry in
     let W = c.loop-j in
-    let spot = c.spot_of-spot in
-    let m = c.lesser-m in
-    let here : W.j < a.args.n = c.loop-j-test.true in
-    let few = lesser-within (g.d - spot.result.i) (a.args.n - W.j) in
-    let within : m.result ≤ g.d - spot.result.i = rw m.ensures few.0 in
-    let room : m.result ≤ a.args.n - W.j = rw m.ensures few.1.0 in
-    let low = spot_within (a.args.a + W.j) g.d g.s spot.result.x spot.result.i (omega (arith, spot.ensures.i_lt_d)) spot.ensures.i_value (omega (arith, here, a.requires.n_bound)) in
-    let up : (W.j + m.result) * g.b ≤ a.args.n * g.b = mul-le-mul_right g.b (omega (arith, here, room)) in
     record { ready = a.requires.working.ready; block = W.invariant.1.1.1.0; products = W.invariant.1.1.1.1 }
 
 pub fetch_stripe-requires-clause-x_lt_s : goal.fetch_stripe-requires-clause-x_lt_s
@@ -53,7 +44,6 @@ fetch_stripe-requires-clause-x_lt_s c =
     let within : m.result ≤ g.d - spot.result.i = rw m.ensures few.0 in
     let room : m.result ≤ a.args.n - W.j = rw m.ensures few.1.0 in
     let low = spot_within (a.args.a + W.j) g.d g.s spot.result.x spot.result.i (omega (arith, spot.ensures.i_lt_d)) spot.ensures.i_value (omega (arith, here, a.requires.n_bound)) in
-    let up : (W.j + m.result) * g.b ≤ a.args.n * g.b = mul-le-mul_right g.b (omega (arith, here, room)) in
     low
 
 pub fetch_stripe-requires-clause-m_bound : goal.fetch_stripe-requires-clause-m_bound

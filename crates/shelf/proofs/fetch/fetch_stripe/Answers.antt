@@ -13,21 +13,6 @@ use Rattle.shelf.proofs.fetch.fetch_stripe.Goals as goal
 pub failed_roles-lost-requires : goal.failed_roles-lost-requires
 failed_roles-lost-requires c = sized c.requires.working.ready.listing.range
 
-pub sources_of-from-requires-clause-list_ready : goal.sources_of-from-requires-clause-list_ready
-sources_of-from-requires-clause-list_ready c =
-    let a = c in
-    a.requires.working.ready.listing
-
-pub sources_of-from-requires-clause-x_lt_s : goal.sources_of-from-requires-clause-x_lt_s
-sources_of-from-requires-clause-x_lt_s c =
-    let a = c in
-    a.requires.x_lt_s
-
-pub sources_of-from-requires-clause-tests : goal.sources_of-from-requires-clause-tests
-sources_of-from-requires-clause-tests c =
-    let a = c in
-    c.failed_roles-lost.ensures
-
 pub loop-k-init : goal.loop-k-init
 loop-k-init c = let a = c in (zero-le, (refl, (a.requires.working.block, (a.requires.working.products, served_start (lent a.args.shelf a.args.array.now a.args.log.now a.args.list.now) a.args.x a.args.i a.args.j a.args.out.now))))
 
@@ -41,11 +26,11 @@ put_block-requires-clause-working_at c =
     let here : W.k < a.args.m = c.loop-k-test.true in
     let low : a.args.i + W.k < a.args.shelf.geometry.d = omega (arith, here, a.requires.m_bound) in
     record {
-        working = record { ready = a.requires.working.ready; block = W.invariant.1.1.0; products = W.invariant.1.1.1.0 };
-        stripe = a.requires.x_lt_s;
-        index = low;
-        sources = c.sources_of-from.ensures;
-      }
+      working = record { ready = a.requires.working.ready; block = W.invariant.1.1.0; products = W.invariant.1.1.1.0 };
+      stripe = a.requires.x_lt_s;
+      index = low;
+      sources = c.sources_of-from.ensures;
+    }
 
 pub put_block-requires-clause-lost_value : goal.put_block-requires-clause-lost_value
 put_block-requires-clause-lost_value c =
@@ -91,10 +76,3 @@ returns-clause-out_after c =
     let W = c.loop-k in
     let done : W.k ≡ a.args.m = omega arith in
     W.invariant.1.1.1.1 ∙ ap (λ (k : ℕ). served_to (lent a.args.shelf a.args.array.now a.args.log.now a.args.list.now) a.args.x a.args.i a.args.j k a.args.out.now) done
-
-pub returns-clause-products : goal.returns-clause-products
-returns-clause-products c =
-    let a = c in
-    let W = c.loop-k in
-    let done : W.k ≡ a.args.m = omega arith in
-    W.invariant.1.1.1.0

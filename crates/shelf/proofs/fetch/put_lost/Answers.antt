@@ -5,18 +5,9 @@ use Rattle.shelf.specs.Lent.{lent}
 use Rattle.shelf.specs.below.Reading.{lost_block}
 use Rattle.shelf.proofs.fetch.put_lost.Goals as goal
 
-pub recover_block-requires : goal.recover_block-requires
-recover_block-requires c = c.requires.working_at
-
 pub returns-clause-out_after : goal.returns-clause-out_after
 returns-clause-out_after c =
     let a = c in
     let w = c.recover_block in
     put_worked a.args.shelf.geometry.b a.args.j a.args.out.now w.new.work (lost_block (lent a.args.shelf a.args.array.now a.args.log.now a.args.list.now) a.args.x a.args.i) c.copy_block.new.dst
-          c.copy_block.ensures w.ensures.work_after (lost_length a.args.shelf a.args.array.now a.args.log.now a.args.list.now a.requires.working_at.working.ready a.args.x a.requires.working_at.stripe a.args.i)
-
-pub returns-clause-products : goal.returns-clause-products
-returns-clause-products c =
-    let a = c in
-    let w = c.recover_block in
-    w.ensures.products
+    c.copy_block.ensures w.ensures.work_after (lost_length a.args.shelf a.args.array.now a.args.log.now a.args.list.now a.requires.working_at.working.ready a.args.x a.requires.working_at.stripe a.args.i)

@@ -14,7 +14,6 @@ use Rattle.shelf.proofs.links.link_place.Goals as goal
 pub last_below-r-requires-clause-s_lt_h : goal.last_below-r-requires-clause-s_lt_h
 last_below-r-requires-clause-s_lt_h c =
     let st = c in
-    let g = st.requires.has_place in
     mod-lt c.address.result st.requires.h_nonzero
 
 pub last_below-r-requires-clause-gap : goal.last_below-r-requires-clause-gap

@@ -31,20 +31,9 @@ lowered-r-requires-clause-upward c =
     let st = c in
     let a = st.args in
     let at = c.loop-s in
-    let g = st.requires.gap in
     let len : length at.list ≡ length a.list.now = at.invariant.1.0 in
     let go : at.s < a.h = c.loop-s-test.true in
     upward_kept a.h a.p a.q at.s (words a.list.now) (words at.list) (omega arith) at.invariant.1.1.rest st.requires.upward
-
-pub lowered-r-requires-clause-y_bound : goal.lowered-r-requires-clause-y_bound
-lowered-r-requires-clause-y_bound c =
-    let st = c in
-    let a = st.args in
-    let at = c.loop-s in
-    let g = st.requires.gap in
-    let len : length at.list ≡ length a.list.now = at.invariant.1.0 in
-    let go : at.s < a.h = c.loop-s-test.true in
-    c.word-y.ensures.upper_bound
 
 pub loop-s-preserved : goal.loop-s-preserved
 loop-s-preserved c =

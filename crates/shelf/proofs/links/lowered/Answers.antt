@@ -11,13 +11,6 @@ loop-z-init c =
     let a = st.args in
     (st.requires.y_bound, passing-start (words a.list.now) a.h a.p a.q a.y)
 
-pub returns-then-z-p-clause-upper_bound : goal.returns-then-z-p-clause-upper_bound
-returns-then-z-p-clause-upper_bound c =
-    let st = c in
-    let a = st.args in
-    let at = c.loop-z in
-    at.invariant.0
-
 pub returns-then-z-p-clause-lowers : goal.returns-then-z-p-clause-lowers
 returns-then-z-p-clause-lowers c =
     let st = c in
@@ -41,13 +34,6 @@ loop-z-preserved c =
       passing_turn (words a.list.now) a.h a.p a.q a.y at.z c.next-z.result c.if-z-p.false c.loop-z-test.true c.next-z.ensures.value at.invariant.1,
     )
 
-pub returns-then-z-eq-NONE-clause-upper_bound : goal.returns-then-z-eq-NONE-clause-upper_bound
-returns-then-z-eq-NONE-clause-upper_bound c =
-    let st = c in
-    let a = st.args in
-    let at = c.loop-z in
-    at.invariant.0
-
 pub returns-then-z-eq-NONE-clause-lowers : goal.returns-then-z-eq-NONE-clause-lowers
 returns-then-z-eq-NONE-clause-lowers c =
     let st = c in
@@ -56,11 +42,7 @@ returns-then-z-eq-NONE-clause-lowers c =
     lowers_none (words a.list.now) a.h a.p a.q a.y at.z st.requires.gap.0 at.invariant.1 c.if-z-eq-NONE.true
 
 pub returns-clause-upper_bound : goal.returns-clause-upper_bound
-returns-clause-upper_bound c =
-    let st = c in
-    let a = st.args in
-    let at = c.loop-z in
-    omega arith
+returns-clause-upper_bound c = omega arith
 
 pub returns-clause-lowers : goal.returns-clause-lowers
 returns-clause-lowers c =

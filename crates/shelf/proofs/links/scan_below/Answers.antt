@@ -21,8 +21,7 @@ returns-then-address-h c =
 pub loop-r-preserved : goal.loop-r-preserved
 loop-r-preserved c =
     let a = c.args in
-    let at = c.loop-r in
-    let go = c.loop-r-test.true in (
+    let at = c.loop-r in (
       omega (arith, at.invariant.0),
       λ q o l. elim (ℕ_discrete q (at.r - 1)) [
         | yes z ↦ λ e. c.if-address-h.false (ap (λ (k : ℕ). k % a.h) c.address.ensures.value ∙ ap (λ (k : ℕ). address_at (words a.list.now) a.h k % a.h) (sym z) ∙ e)

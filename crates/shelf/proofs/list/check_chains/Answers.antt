@@ -61,22 +61,6 @@ links_up-requires-clause-has_place c =
     let l : c.loop-p.p < st.args.n = c.loop-p-test.true in
     (st.requires.measures.h1, (omega (arith, st.requires.measures.e1, st.requires.n_le_e), omega (arith, st.requires.measures.len, st.requires.n_le_e)))
 
-pub links_up-requires-clause-share_value : goal.links_up-requires-clause-share_value
-links_up-requires-clause-share_value c =
-    let at_all = c in
-    let st = at_all in
-    let p : ℕ = c.loop-p.p in
-    let l : c.loop-p.p < st.args.n = c.loop-p-test.true in
-    refl
-
-pub links_up-requires-clause-i_lt_h : goal.links_up-requires-clause-i_lt_h
-links_up-requires-clause-i_lt_h c =
-    let at_all = c in
-    let st = at_all in
-    let p : ℕ = c.loop-p.p in
-    let l : c.loop-p.p < st.args.n = c.loop-p-test.true in
-    c.all-test.true
-
 pub links_up-requires-clause-p_bound : goal.links_up-requires-clause-p_bound
 links_up-requires-clause-p_bound c =
     let at_all = c in
@@ -134,11 +118,11 @@ returns-then-fault c =
     let w : List ℕ = words a.list.now in
     let few : a.n ≤ 4096 = omega (arith, c.requires.measures.e1, c.requires.n_le_e) in
     elim c.all-test.branch [
-      else-all-test x ↦ absurd (not_so (sym c.if-fault.true ∙ x.fault-is ∙ c.all.invariant.1.0))
-    | then-all-test+then-loop-p-test+then-not-links_up x ↦
+      | else-all-test x ↦ absurd (not_so (sym c.if-fault.true ∙ x.fault-is ∙ c.all.invariant.1.0))
+      | then-all-test+then-loop-p-test+then-not-links_up x ↦
           sym (stop_bad w a.g.h a.n c.all.i x.loop-p.m x.loop-p.p x.links_up.result few x.loop-p-test.true x.links_up.ensures
           x.if-not-links_up.true x.loop-p.invariant.1.1)
-    | then-all-test+else-loop-p-test+then-p-ne-NONE x ↦
+      | then-all-test+else-loop-p-test+then-p-ne-NONE x ↦
           sym (stop_out w a.g.h a.n c.all.i x.loop-p.m x.loop-p.p x.if-p-ne-NONE.true x.loop-p-test.false x.loop-p.invariant.1.1)
     ]
 
@@ -147,8 +131,8 @@ returns c =
     let a = c.args in
     let w : List ℕ = words a.list.now in
     elim c.all-test.branch [
-      else-all-test x ↦
+      | else-all-test x ↦
           sym (walked_all w a.g.h a.n c.all.i c.all.m x.all-test.false c.all.invariant.1.1.1 ∙ ap (λ (k : ℕ). eqb k a.n) (sym x.m-is))
-    | then-all-test+then-loop-p-test+then-not-links_up x ↦ absurd (not_so (sym x.fault-is ∙ c.if-fault.false))
-    | then-all-test+else-loop-p-test+then-p-ne-NONE x ↦ absurd (not_so (sym x.fault-is ∙ c.if-fault.false))
+      | then-all-test+then-loop-p-test+then-not-links_up x ↦ absurd (not_so (sym x.fault-is ∙ c.if-fault.false))
+      | then-all-test+else-loop-p-test+then-p-ne-NONE x ↦ absurd (not_so (sym x.fault-is ∙ c.if-fault.false))
     ]

@@ -39,13 +39,6 @@ returns-then-not-check_places c =
     sym (valid-tested w a.g a.next a.listed m.h0 m.d0 m.e1 (fits m) (long m) c.if-listed-g.false
     ∙ ap (λ (t : Bool). t && chained w a.g.h a.listed) (sym c.check_places.ensures ∙ c.if-not-check_places.true))
 
-pub check_chains-requires-clause-measures : goal.check_chains-requires-clause-measures
-check_chains-requires-clause-measures c =
-    let st = c in
-    let a = st.args in
-    let room : a.listed ≤ a.g.e = c.if-listed-g.false in
-    st.requires
-
 pub check_chains-requires-clause-n_le_e : goal.check_chains-requires-clause-n_le_e
 check_chains-requires-clause-n_le_e c =
     let st = c in
@@ -59,7 +52,7 @@ check_chains-requires-clause-low_to c =
     let a = st.args in
     let room : a.listed ≤ a.g.e = c.if-listed-g.false in
     fine-low (words a.list.now) a.g a.next a.listed room 1048576 (few st.requires)
-            (sym c.check_places.ensures ∙ c.if-not-check_places.false)
+    (sym c.check_places.ensures ∙ c.if-not-check_places.false)
 
 pub returns : goal.returns
 returns c =

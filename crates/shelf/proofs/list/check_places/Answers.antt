@@ -14,26 +14,6 @@ loop-p-init c =
     let a = c.args in
     (zero-le, (lowest_first (words a.list.now) a.g.h, λ q o l. absurd (omega arith)))
 
-pub good_place-requires-clause-measures : goal.good_place-requires-clause-measures
-good_place-requires-clause-measures c =
-    let st = c in
-    st.requires.measures
-
-pub good_place-requires-clause-p_lt_n : goal.good_place-requires-clause-p_lt_n
-good_place-requires-clause-p_lt_n c =
-    let st = c in
-    c.loop-p-test.true
-
-pub good_place-requires-clause-n_le_e : goal.good_place-requires-clause-n_le_e
-good_place-requires-clause-n_le_e c =
-    let st = c in
-    st.requires.n_le_e
-
-pub good_place-requires-clause-low_value : goal.good_place-requires-clause-low_value
-good_place-requires-clause-low_value c =
-    let st = c in
-    c.loop-p.invariant.1.0
-
 pub returns-then-not-good_place : goal.returns-then-not-good_place
 returns-then-not-good_place c =
     let a = c.args in

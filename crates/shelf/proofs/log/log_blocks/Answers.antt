@@ -7,18 +7,6 @@ use Rattle.shelf.specs.below.Writing.{new_logged}
 use borrow.Author.Rules.{rules}
 use Rattle.shelf.proofs.log.log_blocks.Goals as goal
 
-pub log_new-requires-clause-in_range : goal.log_new-requires-clause-in_range
-log_new-requires-clause-in_range c =
-    let st = c in
-    let long : length c.log_pre_read.new.log ≡ length st.args.log.now = search rules in
-    st.requires.storable.range
-
-pub log_new-requires-clause-within : goal.log_new-requires-clause-within
-log_new-requires-clause-within c =
-    let st = c in
-    let long : length c.log_pre_read.new.log ≡ length st.args.log.now = search rules in
-    st.requires.storable.within
-
 pub log_new-requires-clause-within_2 : goal.log_new-requires-clause-within_2
 log_new-requires-clause-within_2 c =
     let st = c in

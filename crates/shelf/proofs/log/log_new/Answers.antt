@@ -34,24 +34,6 @@ copy_picked-requires-clause-d_in_bounds_3 c =
     let l2 : length a.share.new ≡ 16 = search rules in
     omega (arith, st.requires.in_range.d_most)
 
-pub copy_picked-requires-clause-within : goal.copy_picked-requires-clause-within
-copy_picked-requires-clause-within c =
-    let st = c in
-    let a = st.args in
-    let l0 : length a.share.from ≡ 16 = search rules in
-    let l1 : length a.plan.cur ≡ 16 = search rules in
-    let l2 : length a.share.new ≡ 16 = search rules in
-    st.requires.within
-
-pub copy_picked-requires-clause-within_2 : goal.copy_picked-requires-clause-within_2
-copy_picked-requires-clause-within_2 c =
-    let st = c in
-    let a = st.args in
-    let l0 : length a.share.from ≡ 16 = search rules in
-    let l1 : length a.plan.cur ≡ 16 = search rules in
-    let l2 : length a.share.new ≡ 16 = search rules in
-    st.requires.within_2
-
 pub returns : goal.returns
 unfolding new_logged
 returns c = c.copy_picked.ensures

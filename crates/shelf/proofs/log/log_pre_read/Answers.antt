@@ -45,20 +45,7 @@ copy_picked-requires-clause-within c =
     let st = c in
     let a = st.args in
     let at = c.block_numbers-at in
-    let l0 : length at.result ≡ 18 = search rules in
-    let l1 : length a.plan.ori ≡ 16 = search rules in
-    let l2 : length a.plan.pre ≡ 16 = search rules in
     numbers_within a.g a.x (tested a.plan.pre) at.result at.ensures a.array.now st.requires.x_lt_s st.requires.array_len
-
-pub copy_picked-requires-clause-within_2 : goal.copy_picked-requires-clause-within_2
-copy_picked-requires-clause-within_2 c =
-    let st = c in
-    let a = st.args in
-    let at = c.block_numbers-at in
-    let l0 : length at.result ≡ 18 = search rules in
-    let l1 : length a.plan.ori ≡ 16 = search rules in
-    let l2 : length a.plan.pre ≡ 16 = search rules in
-    st.requires.within
 
 pub returns : goal.returns
 unfolding pre_logged

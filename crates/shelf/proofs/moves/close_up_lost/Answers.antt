@@ -30,11 +30,11 @@ loop-p-preserved c =
     let f = c.parity_failed in
     let pn = c.loop-p-test.true in
     elim c.if-not-parity_failed.branch [
-      then-not-parity_failed w ↦
+      | then-not-parity_failed w ↦
           (let same : length w.move_place.new.list ≡ length a.list.now = search rules in
           closing_keep g.d g.h g.e a.n t a.list.now at-loop.loop-p.list w.move_place.new.list _ at-loop.loop-p.m _ at-loop.loop-p.p o.result pn st.requires.n_le_e
           at-loop.loop-p.invariant o.ensures.value (sym f.ensures ∙ w.if-not-parity_failed.true) same w.move_place.ensures.h_after w.move_place.ensures.kept_from w.list-is w.m-is)
-    | else-not-parity_failed w ↦
+      | else-not-parity_failed w ↦
           closing-skip g.d g.h g.e a.n t a.list.now at-loop.loop-p.list _ at-loop.loop-p.m _ at-loop.loop-p.p o.result pn st.requires.n_le_e
           at-loop.loop-p.invariant o.ensures.value (sym f.ensures ∙ w.if-not-parity_failed.false) w.list-is w.m-is
     ]
@@ -44,18 +44,21 @@ returns-clause-upper_bound c =
     let at-loop = c in
     let a = at-loop.args in
     let g : Geometry = a.shelf.geometry in
-    let whole = closing_end g.d g.h g.e a.n (parity_failed_at a.shelf) a.list.now at-loop.loop-p.list at-loop.loop-p.m at-loop.loop-p.p (omega arith) at-loop.loop-p.invariant in whole.0
+    let whole = closing_end g.d g.h g.e a.n (parity_failed_at a.shelf) a.list.now at-loop.loop-p.list at-loop.loop-p.m at-loop.loop-p.p (omega arith) at-loop.loop-p.invariant in
+    whole.0
 
 pub returns-clause-h_after : goal.returns-clause-h_after
 returns-clause-h_after c =
     let at-loop = c in
     let a = at-loop.args in
     let g : Geometry = a.shelf.geometry in
-    let whole = closing_end g.d g.h g.e a.n (parity_failed_at a.shelf) a.list.now at-loop.loop-p.list at-loop.loop-p.m at-loop.loop-p.p (omega arith) at-loop.loop-p.invariant in whole.1.0
+    let whole = closing_end g.d g.h g.e a.n (parity_failed_at a.shelf) a.list.now at-loop.loop-p.list at-loop.loop-p.m at-loop.loop-p.p (omega arith) at-loop.loop-p.invariant in
+    whole.1.0
 
 pub returns-clause-kept_from : goal.returns-clause-kept_from
 returns-clause-kept_from c =
     let at-loop = c in
     let a = at-loop.args in
     let g : Geometry = a.shelf.geometry in
-    let whole = closing_end g.d g.h g.e a.n (parity_failed_at a.shelf) a.list.now at-loop.loop-p.list at-loop.loop-p.m at-loop.loop-p.p (omega arith) at-loop.loop-p.invariant in whole.1.1
+    let whole = closing_end g.d g.h g.e a.n (parity_failed_at a.shelf) a.list.now at-loop.loop-p.list at-loop.loop-p.m at-loop.loop-p.p (omega arith) at-loop.loop-p.invariant in
+    whole.1.1

@@ -18,13 +18,3 @@ returns-clause-h_after c =
     let r2 = c.ori-o.ensures.value in
     let r3 = c.cur-c.ensures.value in
     put.ensures.h_after ∙ ap (λ (x : Entry). set (placed a.e w a.h 0) a.j x) (λ t. entry (r t) (r2 t) (r3 t))
-
-pub returns-clause-kept_from : goal.returns-clause-kept_from
-returns-clause-kept_from c =
-    let a = c.args in
-    let w : List ℕ = words a.list.now in
-    let put = c.put_entry in
-    let r = c.address-a.ensures.value in
-    let r2 = c.ori-o.ensures.value in
-    let r3 = c.cur-c.ensures.value in
-    put.ensures.kept_from

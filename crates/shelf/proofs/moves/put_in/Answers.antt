@@ -18,32 +18,8 @@ overflow_mul-x c =
     let a = st.args in
     let g : Geometry = a.g in
     let m = st.requires.measures in
-    let v = st.requires.lists in
-    let room = st.requires.c_bound in
     let r = st.requires.replaces in
     omega (arith, address-low g.d g.s a.x m.d1 m.s1 r.there)
-
-pub first_from-p-requires-clause-measures : goal.first_from-p-requires-clause-measures
-first_from-p-requires-clause-measures c =
-    let st = c in
-    st.requires.measures
-
-pub first_from-p-requires-clause-lists : goal.first_from-p-requires-clause-lists
-first_from-p-requires-clause-lists c =
-    let st = c in
-    st.requires.lists
-
-pub make_gap-requires-clause-p_le_m : goal.make_gap-requires-clause-p_le_m
-make_gap-requires-clause-p_le_m c =
-    let st = c in
-    let a = st.args in
-    let g : Geometry = a.g in
-    let m = st.requires.measures in
-    let v = st.requires.lists in
-    let room = st.requires.c_bound in
-    let r = st.requires.replaces in
-    let p = c.first_from-p.ensures.within in
-    p
 
 pub make_gap-requires-clause-gap : goal.make_gap-requires-clause-gap
 make_gap-requires-clause-gap c =
@@ -51,9 +27,7 @@ make_gap-requires-clause-gap c =
     let a = st.args in
     let g : Geometry = a.g in
     let m = st.requires.measures in
-    let v = st.requires.lists in
     let room = st.requires.c_bound in
-    let r = st.requires.replaces in
     let p = c.first_from-p.ensures.within in
     (omega (arith, p), (omega (arith, room, m.e1), (m.h1, omega (arith, room, m.len))))
 
@@ -62,78 +36,18 @@ put_places-requires-clause-c_bound c =
     let st = c in
     let a = st.args in
     let g : Geometry = a.g in
-    let m = st.requires.measures in
-    let v = st.requires.lists in
     let room = st.requires.c_bound in
-    let r = st.requires.replaces in
     let p = c.first_from-p.ensures.within in
     let len : length c.make_gap.new.list ≡ 4 * (g.h + 4 * g.e) = search rules in
     omega (arith, p, room)
-
-pub put_places-requires-clause-h_bound : goal.put_places-requires-clause-h_bound
-put_places-requires-clause-h_bound c =
-    let st = c in
-    let a = st.args in
-    let g : Geometry = a.g in
-    let m = st.requires.measures in
-    let v = st.requires.lists in
-    let room = st.requires.c_bound in
-    let r = st.requires.replaces in
-    let p = c.first_from-p.ensures.within in
-    let len : length c.make_gap.new.list ≡ 4 * (g.h + 4 * g.e) = search rules in
-    m.h1
-
-pub put_places-requires-clause-e_bound : goal.put_places-requires-clause-e_bound
-put_places-requires-clause-e_bound c =
-    let st = c in
-    let a = st.args in
-    let g : Geometry = a.g in
-    let m = st.requires.measures in
-    let v = st.requires.lists in
-    let room = st.requires.c_bound in
-    let r = st.requires.replaces in
-    let p = c.first_from-p.ensures.within in
-    let len : length c.make_gap.new.list ≡ 4 * (g.h + 4 * g.e) = search rules in
-    m.e1
 
 pub put_places-requires-clause-list_len : goal.put_places-requires-clause-list_len
 put_places-requires-clause-list_len c =
     let st = c in
     let a = st.args in
     let g : Geometry = a.g in
-    let m = st.requires.measures in
-    let v = st.requires.lists in
-    let room = st.requires.c_bound in
-    let r = st.requires.replaces in
-    let p = c.first_from-p.ensures.within in
     let len : length c.make_gap.new.list ≡ 4 * (g.h + 4 * g.e) = search rules in
     len
-
-pub put_places-requires-clause-c_in_bounds : goal.put_places-requires-clause-c_in_bounds
-put_places-requires-clause-c_in_bounds c =
-    let st = c in
-    let a = st.args in
-    let g : Geometry = a.g in
-    let m = st.requires.measures in
-    let v = st.requires.lists in
-    let room = st.requires.c_bound in
-    let r = st.requires.replaces in
-    let p = c.first_from-p.ensures.within in
-    let len : length c.make_gap.new.list ≡ 4 * (g.h + 4 * g.e) = search rules in
-    r.long
-
-pub link_gap-requires-clause-h_nonzero : goal.link_gap-requires-clause-h_nonzero
-link_gap-requires-clause-h_nonzero c =
-    let st = c in
-    let a = st.args in
-    let g : Geometry = a.g in
-    let m = st.requires.measures in
-    let v = st.requires.lists in
-    let room = st.requires.c_bound in
-    let r = st.requires.replaces in
-    let p = c.first_from-p.ensures.within in
-    let len : length c.put_places.new.list ≡ 4 * (g.h + 4 * g.e) = search rules in
-    m.h0
 
 pub link_gap-requires-clause-gap : goal.link_gap-requires-clause-gap
 link_gap-requires-clause-gap c =
@@ -141,9 +55,7 @@ link_gap-requires-clause-gap c =
     let a = st.args in
     let g : Geometry = a.g in
     let m = st.requires.measures in
-    let v = st.requires.lists in
     let room = st.requires.c_bound in
-    let r = st.requires.replaces in
     let p = c.first_from-p.ensures.within in
     let len : length c.put_places.new.list ≡ 4 * (g.h + 4 * g.e) = search rules in
     (omega arith, (omega (arith, p, room, m.e1), (m.h1, omega (arith, p, room))))

@@ -31,34 +31,13 @@ pub put_entry-requires-clause-i_lt_e : goal.put_entry-requires-clause-i_lt_e
 put_entry-requires-clause-i_lt_e c =
     let at-loop = c in
     let j : ℕ = at-loop.loop-j.j in
-    let known = c.shared_slice_known-in-loop-j-3-1.given in
     let st = at-loop in
     let len : length at-loop.loop-j.list ≡ length st.args.list.now = at-loop.loop-j.invariant.1.0 in
     omega arith
 
-pub put_entry-requires-clause-h_bound : goal.put_entry-requires-clause-h_bound
-put_entry-requires-clause-h_bound c =
-    let at-loop = c in
-    let j : ℕ = at-loop.loop-j.j in
-    let known = c.shared_slice_known-in-loop-j-3-1.given in
-    let st = at-loop in
-    let len : length at-loop.loop-j.list ≡ length st.args.list.now = at-loop.loop-j.invariant.1.0 in
-    st.requires.h_bound
-
-pub put_entry-requires-clause-e_bound : goal.put_entry-requires-clause-e_bound
-put_entry-requires-clause-e_bound c =
-    let at-loop = c in
-    let j : ℕ = at-loop.loop-j.j in
-    let known = c.shared_slice_known-in-loop-j-3-1.given in
-    let st = at-loop in
-    let len : length at-loop.loop-j.list ≡ length st.args.list.now = at-loop.loop-j.invariant.1.0 in
-    st.requires.e_bound
-
 pub put_entry-requires-clause-list_len : goal.put_entry-requires-clause-list_len
 put_entry-requires-clause-list_len c =
     let at-loop = c in
-    let j : ℕ = at-loop.loop-j.j in
-    let known = c.shared_slice_known-in-loop-j-3-1.given in
     let st = at-loop in
     let len : length at-loop.loop-j.list ≡ length st.args.list.now = at-loop.loop-j.invariant.1.0 in
     len ∙ st.requires.list_len
@@ -124,21 +103,3 @@ returns-clause-filled c =
     let t : List Entry = placed a.e (words a.list.now) a.h 0 in
     let u : List Entry = placed a.e (words at-loop.loop-j.list) a.h 0 in
     subst (λ (j : ℕ). Filled a.i j t u a.y.now) done at-loop.loop-j.invariant.1.1.0
-
-pub returns-clause-kept_from : goal.returns-clause-kept_from
-returns-clause-kept_from c =
-    let at-loop = c in
-    let a = at-loop.args in
-    let done : at-loop.loop-j.j ≡ a.c = omega arith in
-    let t : List Entry = placed a.e (words a.list.now) a.h 0 in
-    let u : List Entry = placed a.e (words at-loop.loop-j.list) a.h 0 in
-    at-loop.loop-j.invariant.1.1.1.0
-
-pub returns-clause-links_kept : goal.returns-clause-links_kept
-returns-clause-links_kept c =
-    let at-loop = c in
-    let a = at-loop.args in
-    let done : at-loop.loop-j.j ≡ a.c = omega arith in
-    let t : List Entry = placed a.e (words a.list.now) a.h 0 in
-    let u : List Entry = placed a.e (words at-loop.loop-j.list) a.h 0 in
-    at-loop.loop-j.invariant.1.1.1.1

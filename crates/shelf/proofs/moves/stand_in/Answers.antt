@@ -24,8 +24,8 @@ loop-j-init c =
       omega (arith, c.if-q-n.false),
       (
         elim c.if-q-n-2.branch [
-          then-q-n-2+else-address-end w ↦ (λ o. subst (λ (k : ℕ). a.end ≤ k) w.address.ensures.value w.if-address-end.false)
-        | else-q-n-2 w ↦ (λ o. absurd (omega (arith, o, w.if-q-n-2.false)))
+          | then-q-n-2+else-address-end w ↦ (λ o. subst (λ (k : ℕ). a.end ≤ k) w.address.ensures.value w.if-address-end.false)
+          | else-q-n-2 w ↦ (λ o. absurd (omega (arith, o, w.if-q-n-2.false)))
         ],
         (zero-le, λ k o. absurd (omega arith)),
       ),

@@ -20,7 +20,6 @@ lower_heads-requires-clause-gap c =
     let m = st.requires.measures in
     let v = st.requires.lists in
     let pq = st.requires.p_le_q in
-    let qn = st.requires.q_le_n in
     let room = lists-room a.list.now g a.n m v in
     (pq, (omega (arith, m.e1), (m.h1, omega (arith, m.len))))
 
@@ -31,8 +30,6 @@ lower_heads-requires-clause-upward c =
     let g : Geometry = a.g in
     let m = st.requires.measures in
     let v = st.requires.lists in
-    let pq = st.requires.p_le_q in
-    let qn = st.requires.q_le_n in
     let room = lists-room a.list.now g a.n m v in
     (λ q o l. upward (words a.list.now) g v.next a.n m.h0 m.d0 m.e1 v.passing q (omega arith))
 
@@ -44,7 +41,6 @@ lower_nexts-requires-clause-gap c =
     let m = st.requires.measures in
     let v = st.requires.lists in
     let pq = st.requires.p_le_q in
-    let qn = st.requires.q_le_n in
     let room = lists-room a.list.now g a.n m v in
     let r = c.lower_heads in
     let len : length r.new.list ≡ 4 * (g.h + 4 * g.e) = search rules in
@@ -57,26 +53,10 @@ lower_nexts-requires-clause-upward c =
     let g : Geometry = a.g in
     let m = st.requires.measures in
     let v = st.requires.lists in
-    let pq = st.requires.p_le_q in
-    let qn = st.requires.q_le_n in
     let room = lists-room a.list.now g a.n m v in
     let r = c.lower_heads in
     let len : length r.new.list ≡ 4 * (g.h + 4 * g.e) = search rules in
     upward_kept g.h a.p a.q g.h (words a.list.now) (words r.new.list) (omega arith) r.ensures.rest (λ q o l. upward (words a.list.now) g v.next a.n m.h0 m.d0 m.e1 v.passing q (omega arith))
-
-pub move_down-requires-clause-p_le_q : goal.move_down-requires-clause-p_le_q
-move_down-requires-clause-p_le_q c =
-    let st = c in
-    let a = st.args in
-    let g : Geometry = a.g in
-    let m = st.requires.measures in
-    let v = st.requires.lists in
-    let pq = st.requires.p_le_q in
-    let qn = st.requires.q_le_n in
-    let room = lists-room a.list.now g a.n m v in
-    let r = c.lower_nexts in
-    let len : length r.new.list ≡ 4 * (g.h + 4 * g.e) = search rules in
-    pq
 
 pub move_down-requires-clause-gap : goal.move_down-requires-clause-gap
 move_down-requires-clause-gap c =
@@ -85,7 +65,6 @@ move_down-requires-clause-gap c =
     let g : Geometry = a.g in
     let m = st.requires.measures in
     let v = st.requires.lists in
-    let pq = st.requires.p_le_q in
     let qn = st.requires.q_le_n in
     let room = lists-room a.list.now g a.n m v in
     let r = c.lower_nexts in
@@ -141,8 +120,6 @@ fill_from-requires-clause-k_bound c =
     let g : Geometry = a.g in
     let m = st.requires.measures in
     let v = st.requires.lists in
-    let pq = st.requires.p_le_q in
-    let qn = st.requires.q_le_n in
     let room = lists-room a.list.now g a.n m v in
     let r = c.move_down in
     let len : length r.new.list ≡ 4 * (g.h + 4 * g.e) = search rules in
@@ -155,8 +132,6 @@ fill_from-requires-clause-k_in_bounds c =
     let g : Geometry = a.g in
     let m = st.requires.measures in
     let v = st.requires.lists in
-    let pq = st.requires.p_le_q in
-    let qn = st.requires.q_le_n in
     let room = lists-room a.list.now g a.n m v in
     let r = c.move_down in
     let len : length r.new.list ≡ 4 * (g.h + 4 * g.e) = search rules in

@@ -19,8 +19,8 @@ loop-i-preserved c =
     let w = tested c.args.picked in (
       omega arith,
       elim c.if-picked-i.branch [
-        then-picked-i z ↦ (omega (arith, z.n-is), z.n-is ∙ count_passed at-loop.i at-loop.n w (w at-loop.i) at-loop.invariant.1.1 refl z.if-picked-i.true)
-      | else-picked-i z ↦ (omega (arith, z.n-is), z.n-is ∙ count_left at-loop.i at-loop.n w (w at-loop.i) at-loop.invariant.1.1 refl z.if-picked-i.false)
+        | then-picked-i z ↦ (omega (arith, z.n-is), z.n-is ∙ count_passed at-loop.i at-loop.n w (w at-loop.i) at-loop.invariant.1.1 refl z.if-picked-i.true)
+        | else-picked-i z ↦ (omega (arith, z.n-is), z.n-is ∙ count_left at-loop.i at-loop.n w (w at-loop.i) at-loop.invariant.1.1 refl z.if-picked-i.false)
       ],
     )
 

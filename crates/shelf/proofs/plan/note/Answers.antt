@@ -23,28 +23,26 @@ loop-i-preserved c =
     let low : at-loop.i < length at-loop.records = omega arith in (
       omega arith,
       elim c.if-picked-i.branch [
-        then-picked-i z ↦
+        | then-picked-i z ↦ (
+          omega (arith, z.n-is),
+          (
+            z.n-is ∙ next_picked a.r at-loop.i w at-loop.n at-loop.invariant.1.1.0 z.if-picked-i.true,
             (
-              omega (arith, z.n-is),
-              (
-                z.n-is ∙ next_picked a.r at-loop.i w at-loop.n at-loop.invariant.1.1.0 z.if-picked-i.true,
-                (
-                  ap length z.records-is ∙ length-set at-loop.records at-loop.i at-loop.n ∙ at-loop.invariant.1.1.1.0,
-                  noted_picked a.r w a.old at-loop.i at-loop.n at-loop.records c.if-picked-i.records low z.if-picked-i.true at-loop.invariant.1.1.0 z.records-is at-loop.invariant.1.1.1.1,
-                ),
-              ),
-            )
-      | else-picked-i z ↦
+              ap length z.records-is ∙ length-set at-loop.records at-loop.i at-loop.n ∙ at-loop.invariant.1.1.1.0,
+              noted_picked a.r w a.old at-loop.i at-loop.n at-loop.records c.if-picked-i.records low z.if-picked-i.true at-loop.invariant.1.1.0 z.records-is at-loop.invariant.1.1.1.1,
+            ),
+          ),
+        )
+        | else-picked-i z ↦ (
+          omega (arith, z.n-is),
+          (
+            z.n-is ∙ next_passed a.r at-loop.i w at-loop.n at-loop.invariant.1.1.0 z.if-picked-i.false,
             (
-              omega (arith, z.n-is),
-              (
-                z.n-is ∙ next_passed a.r at-loop.i w at-loop.n at-loop.invariant.1.1.0 z.if-picked-i.false,
-                (
-                  ap length z.records-is ∙ at-loop.invariant.1.1.1.0,
-                  noted_passed a.r w a.old at-loop.i at-loop.records c.if-picked-i.records z.if-picked-i.false z.records-is at-loop.invariant.1.1.1.1,
-                ),
-              ),
-            )
+              ap length z.records-is ∙ at-loop.invariant.1.1.1.0,
+              noted_passed a.r w a.old at-loop.i at-loop.records c.if-picked-i.records z.if-picked-i.false z.records-is at-loop.invariant.1.1.1.1,
+            ),
+          ),
+        )
       ],
     )
 

@@ -21,14 +21,6 @@ returns-then-y-x-clause-count_value c =
     c.unlisted_on-written.ensures c.unlisted_on-others.ensures c.count_picked-x.ensures.value c.count_picked-y.ensures.value c.if-y-x.true in
     r.1.0
 
-pub returns-then-y-x-clause-count_le_d : goal.returns-then-y-x-clause-count_le_d
-returns-then-y-x-clause-count_le_d c =
-    let a = c.args in
-    let r =
-    others-read a.d (tested a.new) (tested a.listed) c.unlisted_on-written.result c.unlisted_on-others.result c.count_picked-x.result c.count_picked-y.result
-    c.unlisted_on-written.ensures c.unlisted_on-others.ensures c.count_picked-x.ensures.value c.count_picked-y.ensures.value c.if-y-x.true in
-    c.count_picked-y.ensures.upper_bound
-
 pub returns-then-y-x-clause-places_value : goal.returns-then-y-x-clause-places_value
 returns-then-y-x-clause-places_value c =
     let a = c.args in
@@ -60,14 +52,6 @@ returns-clause-count_value c =
     written_read a.d (tested a.new) (tested a.listed) c.unlisted_on-written.result c.unlisted_on-others.result c.count_picked-x.result c.count_picked-y.result
     c.unlisted_on-written.ensures c.unlisted_on-others.ensures c.count_picked-x.ensures.value c.count_picked-y.ensures.value c.if-y-x.false in
     r.1.0
-
-pub returns-clause-count_le_d : goal.returns-clause-count_le_d
-returns-clause-count_le_d c =
-    let a = c.args in
-    let r =
-    written_read a.d (tested a.new) (tested a.listed) c.unlisted_on-written.result c.unlisted_on-others.result c.count_picked-x.result c.count_picked-y.result
-    c.unlisted_on-written.ensures c.unlisted_on-others.ensures c.count_picked-x.ensures.value c.count_picked-y.ensures.value c.if-y-x.false in
-    c.count_picked-x.ensures.upper_bound
 
 pub returns-clause-places_value : goal.returns-clause-places_value
 returns-clause-places_value c =

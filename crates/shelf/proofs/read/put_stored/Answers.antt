@@ -37,12 +37,3 @@ copy_block-requires-clause-b_in_bounds c =
     let a = c in
     let g = a.args.g in
     fits (a.args.m * g.s + a.args.x) ((g.d + g.parities) * g.s) g.b a.args.array.now a.requires.array_len (within g a.args.m a.args.x a.requires.m_bound a.requires.x_lt_s)
-
-pub copy_block-requires-clause-b_in_bounds_2 : goal.copy_block-requires-clause-b_in_bounds_2
-copy_block-requires-clause-b_in_bounds_2 c =
-    let a = c in
-    let g = a.args.g in
-    a.requires.b_in_bounds
-
-pub returns : goal.returns
-returns c = c.copy_block.ensures

@@ -20,49 +20,8 @@ loop-j-init c =
     let a = c in
     walk_start a.args.g (array_block a.args.g a.args.array.now) a.args.a a.args.n c.spot_of-spot.result.x c.spot_of-spot.result.i a.args.out.now c.spot_of-spot.ensures.i_value c.spot_of-spot.ensures.i_lt_d a.requires.out_len
 
-pub member-m-requires-clause-d_bound : goal.member-m-requires-clause-d_bound
-member-m-requires-clause-d_bound c =
-    let Y = c.requires.in_range in
-    Y.d_most
-
-pub member-m-requires-clause-le_parities : goal.member-m-requires-clause-le_parities
-member-m-requires-clause-le_parities c =
-    let Y = c.requires.in_range in
-    Y.parities_least
-
-pub member-m-requires-clause-parities_bound : goal.member-m-requires-clause-parities_bound
-member-m-requires-clause-parities_bound c =
-    let Y = c.requires.in_range in
-    Y.parities_most
-
 pub member-m-requires-clause-i_bound : goal.member-m-requires-clause-i_bound
-member-m-requires-clause-i_bound c =
-    let Y = c.requires.in_range in
-    omega (arith, c.loop-j.invariant.index)
-
-pub put_stored-requires-clause-in_range : goal.put_stored-requires-clause-in_range
-put_stored-requires-clause-in_range c =
-    let a = c in
-    let g = a.args.g in
-    let W = c.loop-j in
-    let here : W.j < a.args.n = c.loop-j-test.true in
-    a.requires.in_range
-
-pub put_stored-requires-clause-array_len : goal.put_stored-requires-clause-array_len
-put_stored-requires-clause-array_len c =
-    let a = c in
-    let g = a.args.g in
-    let W = c.loop-j in
-    let here : W.j < a.args.n = c.loop-j-test.true in
-    a.requires.array_len
-
-pub put_stored-requires-clause-m_bound : goal.put_stored-requires-clause-m_bound
-put_stored-requires-clause-m_bound c =
-    let a = c in
-    let g = a.args.g in
-    let W = c.loop-j in
-    let here : W.j < a.args.n = c.loop-j-test.true in
-    c.member-m.ensures.upper_bound
+member-m-requires-clause-i_bound c = omega (arith, c.loop-j.invariant.index)
 
 pub put_stored-requires-clause-x_lt_s : goal.put_stored-requires-clause-x_lt_s
 put_stored-requires-clause-x_lt_s c =
@@ -79,22 +38,6 @@ put_stored-requires-clause-b_in_bounds c =
     let W = c.loop-j in
     let here : W.j < a.args.n = c.loop-j-test.true in
     walk_room g (array_block g a.args.array.now) a.args.a a.args.n W.j W.spot.x W.spot.i W.out W.invariant here
-
-pub next-spot-requires-clause-i_lt_d : goal.next-spot-requires-clause-i_lt_d
-next-spot-requires-clause-i_lt_d c =
-    let a = c in
-    let g = a.args.g in
-    let W = c.loop-j in
-    let low = walk_stripe g (array_block g a.args.array.now) a.args.a a.args.n W.j W.spot.x W.spot.i W.out W.invariant c.loop-j-test.true a.requires.n_bound in
-    W.invariant.index
-
-pub next-spot-requires-clause-d_bound : goal.next-spot-requires-clause-d_bound
-next-spot-requires-clause-d_bound c =
-    let a = c in
-    let g = a.args.g in
-    let W = c.loop-j in
-    let low = walk_stripe g (array_block g a.args.array.now) a.args.a a.args.n W.j W.spot.x W.spot.i W.out W.invariant c.loop-j-test.true a.requires.n_bound in
-    a.requires.in_range.d_most
 
 pub next-spot-requires-clause-x_bound : goal.next-spot-requires-clause-x_bound
 next-spot-requires-clause-x_bound c =

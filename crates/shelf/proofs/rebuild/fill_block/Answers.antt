@@ -15,7 +15,6 @@ copy_block-requires-clause-b_in_bounds c =
     let a = c in
     let v : ℕ = get_or a.args.from.latest a.args.i 0 in
     let ev = a.requires.working_at.sources.newest a.args.i a.requires.working_at.index in
-    let k = c.block_number-k in
     latest-low a.args.shelf a.args.array.now a.args.log.now a.args.list.now a.requires.rebuildable.ready a.args.x a.requires.working_at.stripe a.args.i v ev c.if-r-ne-NONE.true
 
 pub copy_block-requires-clause-b_in_bounds_2 : goal.copy_block-requires-clause-b_in_bounds_2
@@ -34,45 +33,11 @@ returns-then-r-ne-NONE-clause-array_after c =
     let g = a.args.shelf.geometry in
     let k = c.block_number-k in
     filled_by a.args.shelf a.args.array.now a.args.log.now a.args.list.now a.args.x a.args.i k.result (block g.b v a.args.log.now) c.copy_block.new.dst k.ensures c.copy_block.ensures
-          (given_log a.args.shelf a.args.array.now a.args.log.now a.args.list.now a.requires.rebuildable.ready a.args.x a.requires.working_at.stripe a.args.i a.requires.i_value v ev c.if-r-ne-NONE.true)
-
-pub returns-then-r-ne-NONE-clause-products : goal.returns-then-r-ne-NONE-clause-products
-returns-then-r-ne-NONE-clause-products c =
-    let a = c in
-    let v : ℕ = get_or a.args.from.latest a.args.i 0 in
-    let ev = a.requires.working_at.sources.newest a.args.i a.requires.working_at.index in
-    let g = a.args.shelf.geometry in
-    let k = c.block_number-k in
-    a.requires.working_at.working.products
-
-pub refill_block-requires-clause-rebuildable : goal.refill_block-requires-clause-rebuildable
-refill_block-requires-clause-rebuildable c =
-    let a = c in
-    let v : ℕ = get_or a.args.from.latest a.args.i 0 in
-    let ev = a.requires.working_at.sources.newest a.args.i a.requires.working_at.index in
-    let on = a.requires.i_value in
-    a.requires.rebuildable
-
-pub refill_block-requires-clause-working_at : goal.refill_block-requires-clause-working_at
-refill_block-requires-clause-working_at c =
-    let a = c in
-    let v : ℕ = get_or a.args.from.latest a.args.i 0 in
-    let ev = a.requires.working_at.sources.newest a.args.i a.requires.working_at.index in
-    let on = a.requires.i_value in
-    a.requires.working_at
-
-pub refill_block-requires-clause-filled_below : goal.refill_block-requires-clause-filled_below
-refill_block-requires-clause-filled_below c =
-    let a = c in
-    let v : ℕ = get_or a.args.from.latest a.args.i 0 in
-    let ev = a.requires.working_at.sources.newest a.args.i a.requires.working_at.index in
-    let on = a.requires.i_value in
-    a.requires.filled_below
+    (given_log a.args.shelf a.args.array.now a.args.log.now a.args.list.now a.requires.rebuildable.ready a.args.x a.requires.working_at.stripe a.args.i a.requires.i_value v ev c.if-r-ne-NONE.true)
 
 pub refill_block-requires-clause-lost : goal.refill_block-requires-clause-lost
 refill_block-requires-clause-lost c =
     let a = c in
-    let v : ℕ = get_or a.args.from.latest a.args.i 0 in
     let ev = a.requires.working_at.sources.newest a.args.i a.requires.working_at.index in
     let on = a.requires.i_value in
     (on, sym ev ∙ c.if-r-ne-NONE.false)
@@ -80,7 +45,6 @@ refill_block-requires-clause-lost c =
 pub copy_block-requires-2-clause-b_in_bounds : goal.copy_block-requires-2-clause-b_in_bounds
 copy_block-requires-2-clause-b_in_bounds c =
     let a = c in
-    let k = c.block_number-k in
     let long : length c.refill_block.new.work ≡ a.args.shelf.geometry.b = c.work-1.given ∙ a.requires.working_at.working.block in
     omega (arith, long)
 
@@ -101,15 +65,4 @@ returns-clause-array_after c =
     let k = c.block_number-k in
     let long : length w.new.work ≡ g.b = c.work-1.given ∙ a.requires.working_at.working.block in
     filled_lost a.args.shelf a.args.array.now a.args.log.now a.args.list.now a.requires.rebuildable.ready a.args.x a.args.i k.result v w.new.work c.copy_block-2.new.dst a.requires.working_at.stripe a.requires.i_value
-          ev c.if-r-ne-NONE.false long w.ensures.work_after k.ensures c.copy_block-2.ensures
-
-pub returns-clause-products : goal.returns-clause-products
-returns-clause-products c =
-    let a = c in
-    let v : ℕ = get_or a.args.from.latest a.args.i 0 in
-    let ev = a.requires.working_at.sources.newest a.args.i a.requires.working_at.index in
-    let g = a.args.shelf.geometry in
-    let w = c.refill_block in
-    let k = c.block_number-k in
-    let long : length w.new.work ≡ g.b = c.work-1.given ∙ a.requires.working_at.working.block in
-    w.ensures.products
+    ev c.if-r-ne-NONE.false long w.ensures.work_after k.ensures c.copy_block-2.ensures

@@ -8,11 +8,6 @@ use Rattle.shelf.proofs.rebuild.rebuild_array.Goals as goal
 pub slice_bounds-rebuild_stripes-end : goal.slice_bounds-rebuild_stripes-end
 slice_bounds-rebuild_stripes-end c = sym (length-take-le c.args.shelf.geometry.b _ c.requires.ready.listing.range.b_most)
 
-pub rebuild_stripes-requires-clause-rebuildable : goal.rebuild_stripes-requires-clause-rebuildable
-rebuild_stripes-requires-clause-rebuildable c =
-    let a = c in
-    a.requires
-
 pub rebuild_stripes-requires-clause-working : goal.rebuild_stripes-requires-clause-working
 rebuild_stripes-requires-clause-working c =
     let a = c in

@@ -27,13 +27,6 @@ rebuild_stripe-requires-clause-working c =
     let now = rebuildable_with a.args.shelf a.args.array.now at-loop.array a.args.log.now a.args.list.now a.requires.rebuildable at-loop.invariant.1.0 in
     record { ready = now.ready; block = at-loop.invariant.1.1.0; products = at-loop.invariant.1.1.1.0 }
 
-pub rebuild_stripe-requires-clause-x_lt_s : goal.rebuild_stripe-requires-clause-x_lt_s
-rebuild_stripe-requires-clause-x_lt_s c =
-    let a = c in
-    let at-loop = c.loop-x in
-    let now = rebuildable_with a.args.shelf a.args.array.now at-loop.array a.args.log.now a.args.list.now a.requires.rebuildable at-loop.invariant.1.0 in
-    c.loop-x-test.true
-
 pub loop-x-preserved : goal.loop-x-preserved
 loop-x-preserved c =
     let a = c in

@@ -31,8 +31,8 @@ loop-n-preserved c =
     let at-loop = c.loop-n in (
       omega arith,
       elim c.if-n-i.branch [
-        then-n-i+else-missing-n w ↦ below_step (tested a.missing) a.i at-loop.n at-loop.invariant.1 w.if-missing-n.false
-      | else-n-i w ↦ below_self (tested a.missing) a.i at-loop.n at-loop.invariant.1 w.if-n-i.false
+        | then-n-i+else-missing-n w ↦ below_step (tested a.missing) a.i at-loop.n at-loop.invariant.1 w.if-missing-n.false
+        | else-n-i w ↦ below_self (tested a.missing) a.i at-loop.n at-loop.invariant.1 w.if-n-i.false
       ],
     )
 

@@ -9,9 +9,6 @@ use Rattle.shelf.specs.Counting.{any}
 use Rattle.shelf.specs.Lent.{bad_record, flag_from}
 use Rattle.shelf.proofs.status.bad_record.Goals as goal
 
-pub all_members-requires : goal.all_members-requires
-all_members-requires c = c.requires
-
 pub any_failed-requires-clause-low_le_high : goal.any_failed-requires-clause-low_le_high
 any_failed-requires-clause-low_le_high c =
     let m = c.requires in
@@ -19,10 +16,7 @@ any_failed-requires-clause-low_le_high c =
     omega (arith, m.0, m.1.1, n)
 
 pub any_failed-requires-clause-high_bound : goal.any_failed-requires-clause-high_bound
-any_failed-requires-clause-high_bound c =
-    let m = c.requires in
-    let n = c.all_members.ensures in
-    omega arith
+any_failed-requires-clause-high_bound c = omega arith
 
 pub returns : goal.returns
 unfolding bad_record

@@ -21,10 +21,10 @@ returns-then-lost-i c =
 
 pub loop-i-preserved : goal.loop-i-preserved
 loop-i-preserved c = (
-      omega arith,
-      walk_miss (λ (k : ℕ). get_or c.failed_roles-lost.result k false) c.loop-i.i _ refl c.loop-i-test.true c.if-lost-i.false
-          ∙ c.loop-i.invariant.1,
-    )
+  omega arith,
+  walk_miss (λ (k : ℕ). get_or c.failed_roles-lost.result k false) c.loop-i.i _ refl c.loop-i-test.true c.if-lost-i.false
+      ∙ c.loop-i.invariant.1,
+)
 
 pub returns : goal.returns
 returns c =

@@ -9,12 +9,6 @@ use Rattle.shelf.proofs.status.data_withheld.Goals as goal
 pub loop-x-init : goal.loop-x-init
 loop-x-init c = (omega arith, refl)
 
-pub withheld_at-requires-clause-list_ready : goal.withheld_at-requires-clause-list_ready
-withheld_at-requires-clause-list_ready c = c.requires.list_ready
-
-pub withheld_at-requires-clause-shelf_value : goal.withheld_at-requires-clause-shelf_value
-withheld_at-requires-clause-shelf_value c = c.requires.shelf_value
-
 pub withheld_at-requires-clause-x_lt_s : goal.withheld_at-requires-clause-x_lt_s
 withheld_at-requires-clause-x_lt_s c = omega arith
 

@@ -22,11 +22,6 @@ returns-then-not-log_failed c =
     (blocks_passed r.geometry a.args.a a.args.n a.args.len (row 14 f 0) c.block_rows-code.result c.block_rows-code.ensures c.if-code-ne0.false).1 0
     (row_pass 14 f 0 0 (none-withheld r a.args.list.now a.requires a.args.a a.args.n (sym c.log_failed.ensures ∙ c.if-not-log_failed.true)) refl)
 
-pub fetch_withheld-requires-clause-list_ready : goal.fetch_withheld-requires-clause-list_ready
-fetch_withheld-requires-clause-list_ready c =
-    let a = c in
-    a.requires
-
 pub fetch_withheld-requires-clause-n_bound : goal.fetch_withheld-requires-clause-n_bound
 fetch_withheld-requires-clause-n_bound c =
     let a = c in

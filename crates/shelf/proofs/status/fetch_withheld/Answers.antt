@@ -19,14 +19,6 @@ overflow_add-a c = omega (arith, addresses_small c.args.shelf.geometry c.require
 pub overflow_add-a-in-loop-j : goal.overflow_add-a-in-loop-j
 overflow_add-a-in-loop-j c = omega (arith, addresses_small c.args.shelf.geometry c.requires.list_ready.range)
 
-pub withheld-requires-clause-list_ready : goal.withheld-requires-clause-list_ready
-withheld-requires-clause-list_ready c =
-    let a = c in
-    let g = a.args.shelf.geometry in
-    let pos : 0 < g.d = omega (arith, a.requires.list_ready.range.d_least) in
-    let low : a.args.a + (c.loop-j.j - 1) < g.d * g.s = omega (arith, a.requires.n_bound) in
-    a.requires.list_ready
-
 pub withheld-requires-clause-x_lt_s : goal.withheld-requires-clause-x_lt_s
 withheld-requires-clause-x_lt_s c =
     let a = c in
@@ -40,7 +32,6 @@ withheld-requires-clause-i_lt_d c =
     let a = c in
     let g = a.args.shelf.geometry in
     let pos : 0 < g.d = omega (arith, a.requires.list_ready.range.d_least) in
-    let low : a.args.a + (c.loop-j.j - 1) < g.d * g.s = omega (arith, a.requires.n_bound) in
     in_range_index g.d (a.args.a + (c.loop-j.j - 1)) pos
 
 pub returns-then-withheld : goal.returns-then-withheld

@@ -22,9 +22,6 @@ overflow_add-a-in-loop-j c = omega (arith, addresses_small c.args.shelf.geometry
 pub role_failed-requires-clause-sized : goal.role_failed-requires-clause-sized
 role_failed-requires-clause-sized c =
     let a = c in
-    let g = a.args.shelf.geometry in
-    let pos : 0 < g.d = omega (arith, a.requires.in_range.d_least) in
-    let low = in_range_index g.d (a.args.a + (c.loop-j.j - 1)) pos in
     sized a.requires.in_range
 
 pub role_failed-requires-clause-i_bound : goal.role_failed-requires-clause-i_bound

@@ -23,11 +23,6 @@ returns-then-not-array_failed c =
     (blocks_passed r.geometry a.args.a a.args.n a.args.len (row 16 f 0) c.block_rows-code.result c.block_rows-code.ensures c.if-code-ne0.false).1 0
     (row_pass 16 f 0 0 (none-failed r (omega (arith, a.requires.d_least)) (sym c.array_failed.ensures ∙ c.if-not-array_failed.true) a.args.a a.args.n) refl)
 
-pub read_failed-requires-clause-in_range : goal.read_failed-requires-clause-in_range
-read_failed-requires-clause-in_range c =
-    let a = c in
-    a.requires
-
 pub read_failed-requires-clause-n_bound : goal.read_failed-requires-clause-n_bound
 read_failed-requires-clause-n_bound c =
     let a = c in

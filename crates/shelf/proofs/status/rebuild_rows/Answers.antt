@@ -32,9 +32,6 @@ returns-then-shelf-eq0 c =
     rows_failed a.args.shelf a.args.list.now c.array_failed.result c.array_failed.ensures (ap not c.if-not-array_failed.false) 0
     (row_pass 14 (data_withheld a.args.shelf.geometry (flag_at a.args.shelf) (listed_by a.args.shelf.geometry a.args.list.now)) 0 0 (none_by_list a.args.shelf a.args.list.now a.requires c.if-shelf-eq0.true) refl)
 
-pub data_withheld-requires-clause-list_ready : goal.data_withheld-requires-clause-list_ready
-data_withheld-requires-clause-list_ready c = c.requires
-
 pub data_withheld-requires-clause-shelf_value : goal.data_withheld-requires-clause-shelf_value
 data_withheld-requires-clause-shelf_value c = sym c.log_failed.ensures ∙ c.if-not-log_failed.false
 

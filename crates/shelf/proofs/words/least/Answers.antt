@@ -28,8 +28,8 @@ loop-t-preserved c =
     λ v. subst (λ (k : ℕ). NoneTo a.list.now a.j k v) one in (
       omega arith,
       elim c.if-b-low.branch [
-        then-b-low z ↦ subst (λ (v : ℕ). NoneTo l a.j (a.j + (at-loop.t + 1)) v) (sym z.low-is) (turned _ (none-lower l a.j j at-loop.low (omega arith) z.if-b-low.true at-loop.invariant.1))
-      | else-b-low z ↦ subst (λ (v : ℕ). NoneTo l a.j (a.j + (at-loop.t + 1)) v) (sym z.low-is) (turned _ (none_kept l a.j j at-loop.low (omega arith) z.if-b-low.false byte at-loop.invariant.1))
+        | then-b-low z ↦ subst (λ (v : ℕ). NoneTo l a.j (a.j + (at-loop.t + 1)) v) (sym z.low-is) (turned _ (none-lower l a.j j at-loop.low (omega arith) z.if-b-low.true at-loop.invariant.1))
+        | else-b-low z ↦ subst (λ (v : ℕ). NoneTo l a.j (a.j + (at-loop.t + 1)) v) (sym z.low-is) (turned _ (none_kept l a.j j at-loop.low (omega arith) z.if-b-low.false byte at-loop.invariant.1))
       ],
     )
 

@@ -17,7 +17,6 @@ returns-clause-value c =
 
 pub returns-clause-upper_bound : goal.returns-clause-upper_bound
 returns-clause-upper_bound c =
-    let a = c.args in
     let e₀ = c.byte-b0.ensures in
     let e₁ = c.byte-b1.ensures in
     let e₂ = c.byte-b2.ensures in

@@ -40,24 +40,11 @@ copy_picked-requires-clause-d_in_bounds_3 c =
     let l2 : length a.share.new ≡ 16 = search rules in
     omega (arith, st.requires.range.d_most)
 
-pub copy_picked-requires-clause-within : goal.copy_picked-requires-clause-within
-copy_picked-requires-clause-within c =
-    let st = c in
-    let a = st.args in
-    let at = c.block_numbers-at in
-    let l0 : length a.share.from ≡ 16 = search rules in
-    let l1 : length at.result ≡ 18 = search rules in
-    let l2 : length a.share.new ≡ 16 = search rules in
-    st.requires.within
-
 pub copy_picked-requires-clause-within_2 : goal.copy_picked-requires-clause-within_2
 copy_picked-requires-clause-within_2 c =
     let st = c in
     let a = st.args in
     let at = c.block_numbers-at in
-    let l0 : length a.share.from ≡ 16 = search rules in
-    let l1 : length at.result ≡ 18 = search rules in
-    let l2 : length a.share.new ≡ 16 = search rules in
     numbers_within a.g a.x (tested a.share.new) at.result at.ensures a.array.now st.requires.stripe st.requires.long
 
 pub returns : goal.returns

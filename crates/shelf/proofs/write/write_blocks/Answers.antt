@@ -23,26 +23,12 @@ loop-x-init c =
     let low = start_end a.args.shelf.geometry a.requires.range a.args.a a.args.n a.requires.some in
     (omega arith, (omega (arith, low), written_start a.args.shelf a.args.array.now a.args.log.now a.args.list.now a.args.a a.args.n a.args.source.now (a.args.a / a.args.shelf.geometry.d) a.requires.range a.requires.some (omega arith) a.requires.shows))
 
-pub share_of-share-requires-clause-in_range : goal.share_of-share-requires-clause-in_range
-share_of-share-requires-clause-in_range c =
-    let a = c in
-    let last = end_within a.args.shelf.geometry a.requires.range a.args.a a.args.n a.requires.some a.requires.fits in
-    let under : c.loop-x.x < a.args.shelf.geometry.s = omega (arith, last, c.loop-x-test.true) in
-    a.requires.range
-
 pub share_of-share-requires-clause-x_lt_s : goal.share_of-share-requires-clause-x_lt_s
 share_of-share-requires-clause-x_lt_s c =
     let a = c in
     let last = end_within a.args.shelf.geometry a.requires.range a.args.a a.args.n a.requires.some a.requires.fits in
     let under : c.loop-x.x < a.args.shelf.geometry.s = omega (arith, last, c.loop-x-test.true) in
     under
-
-pub share_of-share-requires-clause-n_bound : goal.share_of-share-requires-clause-n_bound
-share_of-share-requires-clause-n_bound c =
-    let a = c in
-    let last = end_within a.args.shelf.geometry a.requires.range a.args.a a.args.n a.requires.some a.requires.fits in
-    let under : c.loop-x.x < a.args.shelf.geometry.s = omega (arith, last, c.loop-x-test.true) in
-    a.requires.fits
 
 pub write_stripe-after-requires-clause-writable : goal.write_stripe-after-requires-clause-writable
 write_stripe-after-requires-clause-writable c =
@@ -53,7 +39,8 @@ write_stripe-after-requires-clause-writable c =
     let under : at-loop.x < a.args.shelf.geometry.s = omega (arith, last, taken) in
     let share = c.share_of-share in
     let high : at-loop.x ≤ (a.args.a + a.args.n - 1) / a.args.shelf.geometry.d = omega (arith, taken) in
-    let whole = stripe_asks (lent a.args.shelf a.args.array.now a.args.log.now a.args.list.now) a.args.a a.args.n a.args.source.now a.requires.range a.requires.some a.requires.long at-loop.after at-loop.array at-loop.log at-loop.list at-loop.x at-loop.invariant.1.1 at-loop.invariant.0 high under share.result share.ensures in whole.0
+    let whole = stripe_asks (lent a.args.shelf a.args.array.now a.args.log.now a.args.list.now) a.args.a a.args.n a.args.source.now a.requires.range a.requires.some a.requires.long at-loop.after at-loop.array at-loop.log at-loop.list at-loop.x at-loop.invariant.1.1 at-loop.invariant.0 high under share.result share.ensures in
+    whole.0
 
 pub write_stripe-after-requires-clause-log_len : goal.write_stripe-after-requires-clause-log_len
 write_stripe-after-requires-clause-log_len c =
@@ -64,12 +51,12 @@ write_stripe-after-requires-clause-log_len c =
     let under : at-loop.x < a.args.shelf.geometry.s = omega (arith, last, taken) in
     let share = c.share_of-share in
     let high : at-loop.x ≤ (a.args.a + a.args.n - 1) / a.args.shelf.geometry.d = omega (arith, taken) in
-    let whole = stripe_asks (lent a.args.shelf a.args.array.now a.args.log.now a.args.list.now) a.args.a a.args.n a.args.source.now a.requires.range a.requires.some a.requires.long at-loop.after at-loop.array at-loop.log at-loop.list at-loop.x at-loop.invariant.1.1 at-loop.invariant.0 high under share.result share.ensures in whole.1
+    let whole = stripe_asks (lent a.args.shelf a.args.array.now a.args.log.now a.args.list.now) a.args.a a.args.n a.args.source.now a.requires.range a.requires.some a.requires.long at-loop.after at-loop.array at-loop.log at-loop.list at-loop.x at-loop.invariant.1.1 at-loop.invariant.0 high under share.result share.ensures in
+    whole.1
 
 pub overflow_add-x : goal.overflow_add-x
 overflow_add-x c =
     let a = c in
-    let at-loop = c.loop-x in
     let last = end_within a.args.shelf.geometry a.requires.range a.args.a a.args.n a.requires.some a.requires.fits in
     omega (arith, last, c.loop-x-test.true, a.requires.range.s_most)
 

@@ -8,16 +8,6 @@ use Rattle.shelf.specs.Members.{place_at}
 use Rattle.shelf.proofs.calls.ShareLaws.{made-shows}
 use Rattle.shelf.proofs.write.write_through.Goals as goal
 
-pub make_stripe-n-requires-clause-in_range : goal.make_stripe-n-requires-clause-in_range
-make_stripe-n-requires-clause-in_range c =
-    let W = c.requires in
-    W.listing.range
-
-pub make_stripe-n-requires-clause-x_lt_s : goal.make_stripe-n-requires-clause-x_lt_s
-make_stripe-n-requires-clause-x_lt_s c =
-    let W = c.requires in
-    W.there
-
 pub make_stripe-n-requires-clause-array_len : goal.make_stripe-n-requires-clause-array_len
 make_stripe-n-requires-clause-array_len c =
     let W = c.requires in

@@ -1,6 +1,6 @@
 -- `stripe::parity::first_row` meets its contract. The loop's invariant: the bytes passed are taken over into both rows.
 -- Assumes nothing.
-use Prim.Native.Nat.{◌-◌, ◌≤◌, ◌<◌}
+use Prim.Native.Nat.{◌≤◌, ◌<◌}
 use native.Mathlib.Omega.{arith}
 use lib.ListN.{length}
 use Rattle.stripe.specs.below.Steps.{taken}

@@ -1,7 +1,7 @@
 -- `stripe::parity::make_all_parity` meets its contract. The loop's invariant: the stripes passed have their parities made.
 -- Assumes nothing.
 use mathlib.Core.Path.{◌≡◌, refl, ap, ◌∙◌}
-use Prim.Native.Nat.{ℕ, ◌-◌, zero-le}
+use Prim.Native.Nat.{ℕ, zero-le}
 use native.Mathlib.Omega.{arith}
 use Rattle.stripe.specs.Places.{place, parity_made_all}
 use Rattle.stripe.proofs.ParityLaws.{all-step}

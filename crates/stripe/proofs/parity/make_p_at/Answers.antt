@@ -21,15 +21,6 @@ block_starts-starts-requires-clause-held c =
     let small : length a.array.now ≤ 18446744073709551615 = search rules in
     held-within (a.d + 1) a.b (length a.array.now) 18446744073709551615 a.ns.now small start.requires.placed
 
-pub make_p_columns-requires-clause-b_bound : goal.make_p_columns-requires-clause-b_bound
-make_p_columns-requires-clause-b_bound c =
-    let start = c in
-    let a = start.args in
-    let placed = start.requires.placed in
-    let table = c.block_starts-starts in
-    let long : a.d + 1 ≤ length table.result = search rules in
-    start.requires.b_bound
-
 pub make_p_columns-requires-clause-spans : goal.make_p_columns-requires-clause-spans
 make_p_columns-requires-clause-spans c =
     let start = c in
@@ -45,7 +36,6 @@ make_p_columns-requires-clause-disjoint c =
     let a = start.args in
     let placed = start.requires.placed in
     let table = c.block_starts-starts in
-    let long : a.d + 1 ≤ length table.result = search rules in
     starts_disjoint (a.d + 1) a.b (length a.array.now) a.ns.now table.result placed table.ensures
 
 pub returns : goal.returns

@@ -9,18 +9,10 @@ use Rattle.stripe.proofs.ParityLaws.{spans_less, partly_one}
 use Rattle.stripe.proofs.RowLaws.{zeros-start}
 use Rattle.stripe.proofs.parity.make_p_chunk.Goals as goal
 
-pub plain_sum-requires-clause-w_in_bounds : goal.plain_sum-requires-clause-w_in_bounds
-plain_sum-requires-clause-w_in_bounds c =
-    let start = c in
-    let a = start.args in
-    let fewer : a.d ≤ a.d + 1 = omega arith in
-    start.requires.w_bound
-
 pub plain_sum-requires-clause-starts : goal.plain_sum-requires-clause-starts
 plain_sum-requires-clause-starts c =
     let start = c in
     let a = start.args in
-    let fewer : a.d ≤ a.d + 1 = omega arith in
     zeros-start 64 a.w start.requires.w_bound
 
 pub plain_sum-requires-clause-spans : goal.plain_sum-requires-clause-spans

@@ -21,24 +21,6 @@ block_starts-starts-requires-clause-held c =
     let small : length a.array.now ≤ 18446744073709551615 = search rules in
     held-within (a.d + 2) a.b (length a.array.now) 18446744073709551615 a.ns.now small start.requires.placed
 
-pub make_pq_columns-requires-clause-le_d : goal.make_pq_columns-requires-clause-le_d
-make_pq_columns-requires-clause-le_d c =
-    let start = c in
-    let a = start.args in
-    let placed = start.requires.placed in
-    let table = c.block_starts-starts in
-    let long : a.d + 2 ≤ length table.result = search rules in
-    start.requires.le_d
-
-pub make_pq_columns-requires-clause-b_bound : goal.make_pq_columns-requires-clause-b_bound
-make_pq_columns-requires-clause-b_bound c =
-    let start = c in
-    let a = start.args in
-    let placed = start.requires.placed in
-    let table = c.block_starts-starts in
-    let long : a.d + 2 ≤ length table.result = search rules in
-    start.requires.b_bound
-
 pub make_pq_columns-requires-clause-spans : goal.make_pq_columns-requires-clause-spans
 make_pq_columns-requires-clause-spans c =
     let start = c in
@@ -54,7 +36,6 @@ make_pq_columns-requires-clause-disjoint c =
     let a = start.args in
     let placed = start.requires.placed in
     let table = c.block_starts-starts in
-    let long : a.d + 2 ≤ length table.result = search rules in
     starts_disjoint (a.d + 2) a.b (length a.array.now) a.ns.now table.result placed table.ensures
 
 pub returns : goal.returns

@@ -8,27 +8,6 @@ use lib.ListN.{length, get_or}
 use Rattle.stripe.proofs.ParityLaws.{spans_less, partly_two}
 use Rattle.stripe.proofs.parity.make_pq_chunk.Goals as goal
 
-pub sums-requires-clause-le_d : goal.sums-requires-clause-le_d
-sums-requires-clause-le_d c =
-    let start = c in
-    let a = start.args in
-    let fewer : a.d ≤ a.d + 2 = omega arith in
-    start.requires.le_d
-
-pub sums-requires-clause-w_in_bounds : goal.sums-requires-clause-w_in_bounds
-sums-requires-clause-w_in_bounds c =
-    let start = c in
-    let a = start.args in
-    let fewer : a.d ≤ a.d + 2 = omega arith in
-    start.requires.w_bound
-
-pub sums-requires-clause-w_in_bounds_2 : goal.sums-requires-clause-w_in_bounds_2
-sums-requires-clause-w_in_bounds_2 c =
-    let start = c in
-    let a = start.args in
-    let fewer : a.d ≤ a.d + 2 = omega arith in
-    start.requires.w_bound
-
 pub sums-requires-clause-spans : goal.sums-requires-clause-spans
 sums-requires-clause-spans c =
     let start = c in

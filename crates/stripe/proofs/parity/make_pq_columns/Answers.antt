@@ -7,21 +7,8 @@ use native.Mathlib.Omega.{arith}
 use Rattle.stripe.proofs.ParityLaws.{spans_less, partly_end}
 use Rattle.stripe.proofs.parity.make_pq_columns.Goals as goal
 
-pub make_pq_chunk-requires-clause-le_d : goal.make_pq_chunk-requires-clause-le_d
-make_pq_chunk-requires-clause-le_d c =
-    let start = c in
-    let a = start.args in
-    let at-loop = c.loop-o in
-    let fits : at-loop.o + 64 ≤ a.b = c.loop-o-test.true in
-    start.requires.le_d
-
 pub make_pq_chunk-requires-clause-w_bound : goal.make_pq_chunk-requires-clause-w_bound
-make_pq_chunk-requires-clause-w_bound c =
-    let start = c in
-    let a = start.args in
-    let at-loop = c.loop-o in
-    let fits : at-loop.o + 64 ≤ a.b = c.loop-o-test.true in
-    le_refl 64
+make_pq_chunk-requires-clause-w_bound c = le_refl 64
 
 pub make_pq_chunk-requires-clause-spans : goal.make_pq_chunk-requires-clause-spans
 make_pq_chunk-requires-clause-spans c =
@@ -37,14 +24,6 @@ loop-o-preserved c =
     let at-loop = c.loop-o in
     let fits : at-loop.o + 64 ≤ start.args.b = c.loop-o-test.true in
     (fits, (c.array-1.given ∙ at-loop.invariant.1.0, c.make_pq_chunk.ensures start.args.b start.args.array.now fits start.requires.disjoint at-loop.invariant.1.1))
-
-pub make_pq_chunk-requires-then-o-b-clause-le_d : goal.make_pq_chunk-requires-then-o-b-clause-le_d
-make_pq_chunk-requires-then-o-b-clause-le_d c =
-    let start = c in
-    let a = start.args in
-    let at-loop = c.loop-o in
-    let fits : at-loop.o + (a.b - at-loop.o) ≤ a.b = omega arith in
-    start.requires.le_d
 
 pub make_pq_chunk-requires-then-o-b-clause-w_bound : goal.make_pq_chunk-requires-then-o-b-clause-w_bound
 make_pq_chunk-requires-then-o-b-clause-w_bound c =

@@ -1,7 +1,7 @@
 -- `stripe::parity::plain_sum` meets its contract. The loop's invariant: p is the sum over the data blocks from i on.
 -- Assumes nothing.
 use mathlib.Core.Path.{◌≡◌}
-use Prim.Native.Nat.{◌-◌, ◌≤◌}
+use Prim.Native.Nat.{◌≤◌}
 use lib.ListN.{length}
 use Rattle.stripe.specs.below.Steps.{Starts, later, by_start}
 use Rattle.stripe.proofs.Sums.{plain_from}

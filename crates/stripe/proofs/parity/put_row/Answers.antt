@@ -1,7 +1,7 @@
 -- `stripe::parity::put_row` meets its contract. The loop's invariant: the bytes passed are stored.
 -- Assumes nothing.
 use mathlib.Core.Path.{◌≡◌}
-use Prim.Native.Nat.{◌+◌, ◌-◌, ◌<◌}
+use Prim.Native.Nat.{◌+◌, ◌<◌}
 use native.Mathlib.Omega.{arith}
 use lib.ListN.{length}
 use Rattle.stripe.proofs.RowLaws.{put_step, put_end}

@@ -18,18 +18,6 @@ first_row-requires-clause-w_in_bounds c =
     let at : get_or start.args.starts.now (start.args.d - 1) 0 + (start.args.o + start.args.w) ≤ length start.args.array.now = start.requires.spans.within (start.args.d - 1) (omega arith) in
     omega arith
 
-pub first_row-requires-clause-w_in_bounds_2 : goal.first_row-requires-clause-w_in_bounds_2
-first_row-requires-clause-w_in_bounds_2 c =
-    let start = c in
-    let at : get_or start.args.starts.now (start.args.d - 1) 0 + (start.args.o + start.args.w) ≤ length start.args.array.now = start.requires.spans.within (start.args.d - 1) (omega arith) in
-    start.requires.w_in_bounds
-
-pub first_row-requires-clause-w_in_bounds_3 : goal.first_row-requires-clause-w_in_bounds_3
-first_row-requires-clause-w_in_bounds_3 c =
-    let start = c in
-    let at : get_or start.args.starts.now (start.args.d - 1) 0 + (start.args.o + start.args.w) ≤ length start.args.array.now = start.requires.spans.within (start.args.d - 1) (omega arith) in
-    start.requires.w_in_bounds_2
-
 pub loop-i-init : goal.loop-i-init
 loop-i-init c =
     let start = c in

@@ -1,7 +1,7 @@
 -- `stripe::parity::sums` meets its contract. The loop's invariant: p and q are the sums over the data blocks from i on, Q's by Horner's rule.
 -- Assumes nothing.
 use mathlib.Core.Path.{◌≡◌}
-use Prim.Native.Nat.{◌-◌, ◌<◌}
+use Prim.Native.Nat.{◌<◌}
 use lib.ListN.{length}
 use Rattle.stripe.specs.below.Steps.{Starts, later, by_start}
 use Rattle.stripe.proofs.Sums.{plain_from, horner_from}

@@ -1,7 +1,7 @@
 -- `stripe::places::block_starts` meets its contract. The loop's invariant: each block passed has its offset in the table.
 -- Assumes nothing.
 use mathlib.Core.Path.{refl}
-use Prim.Native.Nat.{◌-◌, ◌<◌}
+use Prim.Native.Nat.{◌<◌}
 use native.Mathlib.Omega.{arith}
 use lib.ListN.{length, length-set}
 use Rattle.stripe.specs.Places.{offset_of}

@@ -14,9 +14,7 @@ returns-then-layout-eq0-clause-value c =
     first_fixed a.layout a.d a.parities a.x c.if-layout-eq0.true
 
 pub returns-then-layout-eq0-clause-upper_bound : goal.returns-then-layout-eq0-clause-upper_bound
-returns-then-layout-eq0-clause-upper_bound c =
-    let a = c.args in
-    omega arith
+returns-then-layout-eq0-clause-upper_bound c = omega arith
 
 pub overflow_sub-last-2 : goal.overflow_sub-last-2
 overflow_sub-last-2 c =
@@ -24,9 +22,7 @@ overflow_sub-last-2 c =
     omega (arith, mod-lt a.x (let pos : 0 < a.d + (a.parities - 1) + 1 = omega arith in pos))
 
 pub turned-requires-clause-n_bound : goal.turned-requires-clause-n_bound
-turned-requires-clause-n_bound c =
-    let a = c.args in
-    omega arith
+turned-requires-clause-n_bound c = omega arith
 
 pub turned-requires-clause-m_lt_n : goal.turned-requires-clause-m_lt_n
 turned-requires-clause-m_lt_n c =
@@ -34,9 +30,7 @@ turned-requires-clause-m_lt_n c =
     omega (arith, mod-lt a.x (let pos : 0 < a.d + (a.parities - 1) + 1 = omega arith in pos))
 
 pub turned-requires-clause-i_le_n : goal.turned-requires-clause-i_le_n
-turned-requires-clause-i_le_n c =
-    let a = c.args in
-    omega arith
+turned-requires-clause-i_le_n c = omega arith
 
 pub returns-clause-value : goal.returns-clause-value
 returns-clause-value c =
@@ -52,7 +46,6 @@ returns-clause-value c =
 pub returns-clause-upper_bound : goal.returns-clause-upper_bound
 returns-clause-upper_bound c =
     let a = c.args in
-    let some = c.requires.le_parities in
     let all : a.d + (a.parities - 1) + 1 ≡ a.d + a.parities = omega arith in
     let end : a.d + (a.parities - 1) ≡ a.d + a.parities - 1 = omega arith in
     let is = c.turned.ensures.value

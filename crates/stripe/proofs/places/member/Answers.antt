@@ -9,10 +9,3 @@ returns-clause-value c =
     let a = start.args in
     let first = c.first_member in
     member_from a.layout a.d a.parities a.x a.i first.result c.turned.result first.ensures.value c.turned.ensures.value start.requires.i_bound
-
-pub returns-clause-upper_bound : goal.returns-clause-upper_bound
-returns-clause-upper_bound c =
-    let start = c in
-    let a = start.args in
-    let first = c.first_member in
-    c.turned.ensures.upper_bound

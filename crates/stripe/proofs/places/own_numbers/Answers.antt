@@ -1,7 +1,7 @@
 -- `stripe::places::own_numbers` meets its contract. The loop's invariant: each role passed has its own number in the table.
 -- Assumes nothing.
 use mathlib.Core.Path.{refl}
-use Prim.Native.Nat.{◌-◌, ◌<◌}
+use Prim.Native.Nat.{◌<◌}
 use native.Mathlib.Omega.{arith}
 use lib.ListN.{length, length-set}
 use Rattle.stripe.specs.Places.{in_order}

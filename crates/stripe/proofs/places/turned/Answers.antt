@@ -10,17 +10,10 @@ returns-then-k-n-clause-value c =
     let a = c.args in
     sym (turned-low a.n a.m a.i c.if-k-n.true)
 
-pub returns-then-k-n-clause-upper_bound : goal.returns-then-k-n-clause-upper_bound
-returns-then-k-n-clause-upper_bound c =
-    let a = c.args in
-    c.if-k-n.true
-
 pub returns-clause-value : goal.returns-clause-value
 returns-clause-value c =
     let a = c.args in
     sym (turned_high a.n a.m a.i (omega (arith, c.if-k-n.false)))
 
 pub returns-clause-upper_bound : goal.returns-clause-upper_bound
-returns-clause-upper_bound c =
-    let a = c.args in
-    omega arith
+returns-clause-upper_bound c = omega arith

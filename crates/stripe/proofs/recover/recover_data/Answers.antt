@@ -6,34 +6,6 @@ use Rattle.stripe.proofs.RecoverLaws.{stripe-long, data_one, data_one_second, da
 use Rattle.stripe.proofs.recover.recover_data.Goals as goal
 use Rattle.stripe.proofs.recover.recover_data.Goals.{then-x-y+else-y-d, else-x-y}
 
-pub recover_two-requires-clause-workable : goal.recover_two-requires-clause-workable
-recover_two-requires-clause-workable c =
-    let start = c in
-    let a = start.args in
-    let apart = c.if-x-y.true in
-    start.requires.workable
-
-pub recover_two-requires-clause-x_lt_d : goal.recover_two-requires-clause-x_lt_d
-recover_two-requires-clause-x_lt_d c =
-    let start = c in
-    let a = start.args in
-    let apart = c.if-x-y.true in
-    c.if-x-d.true
-
-pub recover_two-requires-clause-y_lt_d : goal.recover_two-requires-clause-y_lt_d
-recover_two-requires-clause-y_lt_d c =
-    let start = c in
-    let a = start.args in
-    let apart = c.if-x-y.true in
-    c.if-y-d.true
-
-pub recover_two-requires-clause-fact : goal.recover_two-requires-clause-fact
-recover_two-requires-clause-fact c =
-    let start = c in
-    let a = start.args in
-    let apart = c.if-x-y.true in
-    apart
-
 pub recover_two-requires-clause-le_parities : goal.recover_two-requires-clause-le_parities
 recover_two-requires-clause-le_parities c =
     let start = c in
@@ -46,18 +18,6 @@ returns-then-x-d c =
     let start = c in
     let a = start.args in
     data_one a.d a.parities a.b a.x a.y a.stripe.now _ c.if-x-d.true (elim c.if-x-y.branch [ then-x-y+else-y-d w ↦ inr w.if-y-d.false | else-x-y w ↦ inl w.if-x-y.false ]) c.recover_one.ensures
-
-pub recover_one-requires-then-y-d-2-clause-workable : goal.recover_one-requires-then-y-d-2-clause-workable
-recover_one-requires-then-y-d-2-clause-workable c =
-    let start = c in
-    let a = start.args in
-    start.requires.workable
-
-pub recover_one-requires-then-y-d-2-clause-x_lt_d : goal.recover_one-requires-then-y-d-2-clause-x_lt_d
-recover_one-requires-then-y-d-2-clause-x_lt_d c =
-    let start = c in
-    let a = start.args in
-    c.if-y-d-2.true
 
 pub recover_one-requires-then-y-d-2-clause-recoverable : goal.recover_one-requires-then-y-d-2-clause-recoverable
 recover_one-requires-then-y-d-2-clause-recoverable c =

@@ -15,14 +15,6 @@ recover_data-requires-clause-workable c =
     let long : a.d + a.parities ≤ length table.result = search rules in
     record { measures = start.requires.whole; working = start.requires.work_len; long = long; table = table.ensures }
 
-pub recover_data-requires-clause-recoverable : goal.recover_data-requires-clause-recoverable
-recover_data-requires-clause-recoverable c =
-    let start = c in
-    let a = start.args in
-    let table = c.own_numbers-ns in
-    let long : a.d + a.parities ≤ length table.result = search rules in
-    start.requires.recoverable
-
 pub recover_parity-requires-clause-workable : goal.recover_parity-requires-clause-workable
 recover_parity-requires-clause-workable c =
     let start = c in
@@ -31,24 +23,6 @@ recover_parity-requires-clause-workable c =
     let long : a.d + a.parities ≤ length table.result = search rules in
     let ok : Workable a.d a.parities a.b a.stripe.now a.work.now table.result = record { measures = start.requires.whole; working = start.requires.work_len; long = long; table = table.ensures } in
     workable_after _ _ c.stripe-1.given c.work-1.given ok
-
-pub recover_parity-requires-clause-x_bound : goal.recover_parity-requires-clause-x_bound
-recover_parity-requires-clause-x_bound c =
-    let start = c in
-    let a = start.args in
-    let table = c.own_numbers-ns in
-    let long : a.d + a.parities ≤ length table.result = search rules in
-    let ok : Workable a.d a.parities a.b a.stripe.now a.work.now table.result = record { measures = start.requires.whole; working = start.requires.work_len; long = long; table = table.ensures } in
-    start.requires.x_bound
-
-pub recover_parity-requires-clause-y_bound : goal.recover_parity-requires-clause-y_bound
-recover_parity-requires-clause-y_bound c =
-    let start = c in
-    let a = start.args in
-    let table = c.own_numbers-ns in
-    let long : a.d + a.parities ≤ length table.result = search rules in
-    let ok : Workable a.d a.parities a.b a.stripe.now a.work.now table.result = record { measures = start.requires.whole; working = start.requires.work_len; long = long; table = table.ensures } in
-    start.requires.y_bound
 
 pub returns : goal.returns
 returns c =

@@ -11,16 +11,6 @@ use Rattle.stripe.proofs.RowLaws.{no_products}
 use Rattle.stripe.proofs.BlockLaws.{fits}
 use Rattle.stripe.proofs.recover.recover_one.Goals as goal
 
-pub put_sum-requires-clause-workable : goal.put_sum-requires-clause-workable
-put_sum-requires-clause-workable c =
-    let start = c in
-    start.requires.workable
-
-pub put_sum-requires-clause-y_lt_d : goal.put_sum-requires-clause-y_lt_d
-put_sum-requires-clause-y_lt_d c =
-    let start = c in
-    start.requires.x_lt_d
-
 pub returns-then-comes_from_p : goal.returns-then-comes_from_p
 returns-then-comes_from_p c =
     let a = c.args in
@@ -33,20 +23,6 @@ solve-requires-clause-gathers c =
     let a = start.args in
     let ok = start.requires.workable in
     gathers a.d a.parities a.b a.stripe.now a.work.now a.ns.now ok _ ok.working
-
-pub solve-requires-clause-products : goal.solve-requires-clause-products
-solve-requires-clause-products c =
-    let start = c in
-    let a = start.args in
-    let ok = start.requires.workable in
-    no_products
-
-pub solve-requires-clause-x_lt_d : goal.solve-requires-clause-x_lt_d
-solve-requires-clause-x_lt_d c =
-    let start = c in
-    let a = start.args in
-    let ok = start.requires.workable in
-    start.requires.x_lt_d
 
 pub solve-requires-clause-held : goal.solve-requires-clause-held
 solve-requires-clause-held c =
@@ -78,3 +54,6 @@ returns c =
     let start = c in
     let a = start.args in
     data_put a.d a.parities a.b a.stripe.now a.work.now a.ns.now start.requires.workable a.x a.y _ _ start.requires.recoverable start.requires.x_lt_d c.solve.ensures.work_after c.copy_block.ensures
+
+pub solve-requires-clause-products : goal.solve-requires-clause-products
+solve-requires-clause-products c = no_products

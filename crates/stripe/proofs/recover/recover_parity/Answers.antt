@@ -4,9 +4,6 @@ use mathlib.Core.Path.{sym, ◌∙◌}
 use Rattle.stripe.proofs.RecoverLaws.{named_q, parity_both, parity_p_lem, parity_q_lem, parity-none}
 use Rattle.stripe.proofs.recover.recover_parity.Goals as goal
 
-pub make_own_parity-requires : goal.make_own_parity-requires
-make_own_parity-requires c = c.requires.workable.measures
-
 pub returns-then-names-2 : goal.returns-then-names-2
 returns-then-names-2 c =
     let start = c in
@@ -18,12 +15,6 @@ returns-then-names c =
     let start = c in
     let a = start.args in
     parity_p_lem a.d a.parities a.b a.x a.y a.stripe.now start.requires.workable.measures.parity-most start.requires.workable.measures.size_is _ (sym c.names.ensures ∙ c.if-names.true) (sym c.names-then-names.ensures ∙ c.if-names-2.false) c.make_p.ensures
-
-pub make_q-requires-clause-workable : goal.make_q-requires-clause-workable
-make_q-requires-clause-workable c =
-    let start = c in
-    let a = start.args in
-    start.requires.workable
 
 pub make_q-requires-clause-le_parities : goal.make_q-requires-clause-le_parities
 make_q-requires-clause-le_parities c =

@@ -6,40 +6,10 @@ use Rattle.stripe.specs.Blocks.{byte_of}
 use Rattle.stripe.proofs.RecoverLaws.{workable_after, data_two}
 use Rattle.stripe.proofs.recover.recover_two.Goals as goal
 
-pub put_sum-requires-clause-workable : goal.put_sum-requires-clause-workable
-put_sum-requires-clause-workable c =
-    let start = c in
-    start.requires.workable
-
-pub put_sum-requires-clause-y_lt_d : goal.put_sum-requires-clause-y_lt_d
-put_sum-requires-clause-y_lt_d c =
-    let start = c in
-    start.requires.y_lt_d
-
 pub split_sum-requires-clause-workable : goal.split_sum-requires-clause-workable
 split_sum-requires-clause-workable c =
     let start = c in
     workable_after _ _ c.stripe-1.given c.work-1.given start.requires.workable
-
-pub split_sum-requires-clause-x_lt_d : goal.split_sum-requires-clause-x_lt_d
-split_sum-requires-clause-x_lt_d c =
-    let start = c in
-    start.requires.x_lt_d
-
-pub split_sum-requires-clause-y_lt_d : goal.split_sum-requires-clause-y_lt_d
-split_sum-requires-clause-y_lt_d c =
-    let start = c in
-    start.requires.y_lt_d
-
-pub split_sum-requires-clause-fact : goal.split_sum-requires-clause-fact
-split_sum-requires-clause-fact c =
-    let start = c in
-    start.requires.fact
-
-pub split_sum-requires-clause-le_parities : goal.split_sum-requires-clause-le_parities
-split_sum-requires-clause-le_parities c =
-    let start = c in
-    start.requires.le_parities
 
 pub returns : goal.returns
 unfolding byte_of

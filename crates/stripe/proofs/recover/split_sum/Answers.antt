@@ -18,27 +18,6 @@ solve_of_sum-requires-clause-gathers c =
     let ok = start.requires.workable in
     gathers a.d a.parities a.b a.stripe.now a.work.now a.ns.now ok _ ok.working
 
-pub solve_of_sum-requires-clause-products : goal.solve_of_sum-requires-clause-products
-solve_of_sum-requires-clause-products c =
-    let start = c in
-    let a = start.args in
-    let ok = start.requires.workable in
-    no_products
-
-pub solve_of_sum-requires-clause-x_lt_d : goal.solve_of_sum-requires-clause-x_lt_d
-solve_of_sum-requires-clause-x_lt_d c =
-    let start = c in
-    let a = start.args in
-    let ok = start.requires.workable in
-    start.requires.x_lt_d
-
-pub solve_of_sum-requires-clause-y_lt_d : goal.solve_of_sum-requires-clause-y_lt_d
-solve_of_sum-requires-clause-y_lt_d c =
-    let start = c in
-    let a = start.args in
-    let ok = start.requires.workable in
-    start.requires.y_lt_d
-
 pub solve_of_sum-requires-clause-held : goal.solve_of_sum-requires-clause-held
 solve_of_sum-requires-clause-held c =
     let start = c in
@@ -69,7 +48,6 @@ add_block-requires-clause-work_len c =
     let l = c.copy_block.new.dst in
     let w = c.solve_of_sum.new.work in
     let next : Workable a.d a.parities a.b l w a.ns.now = workable_after l w c.stripe-1.given c.work-1.given start.requires.workable in
-    let g : Gathers a.d (a.d + a.parities) a.b l [] a.ns.now w = gathers a.d a.parities a.b l w a.ns.now next w next.working in
     next.working
 
 pub add_block-requires-clause-array_len : goal.add_block-requires-clause-array_len
@@ -121,3 +99,6 @@ returns c =
     in_a_row (replaced a.x (of_sum a.d a.x a.y)) (replaced a.y (sum_of a.x a.y)) (a.d + a.parities) a.b a.stripe.now _ _
     (of_sum_put a.d a.parities a.b a.stripe.now a.work.now a.ns.now ok start.requires.le_parities a.x a.y _ _ start.requires.x_lt_d c.solve_of_sum.ensures.work_after c.copy_block.ensures)
     (other_put a.d a.parities a.b a.stripe.now a.work.now a.ns.now ok a.x a.y _ _ _ _ start.requires.x_lt_d start.requires.y_lt_d len c.copy_block.ensures c.add_block.ensures c.copy_block-2.ensures)
+
+pub solve_of_sum-requires-clause-products : goal.solve_of_sum-requires-clause-products
+solve_of_sum-requires-clause-products c = no_products

@@ -1,7 +1,7 @@
 -- `stripe::rows::clear_row` meets its contract. The loop's invariant: the bytes passed are 0.
 -- Assumes nothing.
 use mathlib.Core.Path.{refl}
-use Prim.Native.Nat.{◌-◌, ◌<◌}
+use Prim.Native.Nat.{◌<◌}
 use native.Mathlib.Omega.{arith}
 use lib.ListN.{length, length-set}
 use Rattle.stripe.specs.below.Steps.{zeros}

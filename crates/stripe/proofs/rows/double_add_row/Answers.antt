@@ -1,6 +1,6 @@
 -- `stripe::rows::double_add_row` meets its contract. The loop's invariant: the bytes passed are doubled and have those of the source added.
 -- Assumes nothing.
-use Prim.Native.Nat.{◌-◌, ◌<◌}
+use Prim.Native.Nat.{◌<◌}
 use native.Mathlib.Omega.{arith}
 use lib.ListN.{length}
 use Rattle.stripe.specs.below.Steps.{taken, twice_plus}

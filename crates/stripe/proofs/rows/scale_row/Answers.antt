@@ -1,6 +1,6 @@
 -- `stripe::rows::scale_row` meets its contract. The loop's invariant: the bytes passed are multiplied by the table's constant.
 -- Assumes nothing.
-use Prim.Native.Nat.{zero-le, ◌-◌, ◌<◌}
+use Prim.Native.Nat.{zero-le, ◌<◌}
 use native.Mathlib.Omega.{arith}
 use lib.ListN.{length, get_or}
 use Rattle.stripe.specs.below.Steps.{scaled, constant}

@@ -16,7 +16,6 @@ add_row-requires-clause-b_in_bounds c =
 
 pub add_row-requires-clause-b_in_bounds_2 : goal.add_row-requires-clause-b_in_bounds_2
 add_row-requires-clause-b_in_bounds_2 c =
-    let a = c.args in
     let pre = c.requires in
     omega (arith, pre.work_len)
 
@@ -41,7 +40,6 @@ add_row-requires-2-clause-b_in_bounds c =
 
 pub add_row-requires-2-clause-b_in_bounds_2 : goal.add_row-requires-2-clause-b_in_bounds_2
 add_row-requires-2-clause-b_in_bounds_2 c =
-    let a = c.args in
     let pre = c.requires in
     omega (arith, pre.work_len)
 

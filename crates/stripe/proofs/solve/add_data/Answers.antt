@@ -2,7 +2,7 @@
 -- Assumes nothing.
 use mathlib.Core.List.{◌++◌}
 use mathlib.Core.Path.{◌≡◌, ap, ◌∙◌}
-use Prim.Native.Nat.{ℕ, ◌-◌, zero-le}
+use Prim.Native.Nat.{ℕ, zero-le}
 use native.Mathlib.Omega.{arith}
 use borrow.Author.Rules.{rules}
 use Rattle.stripe.specs.below.Steps.{plus, there_p}
@@ -22,12 +22,6 @@ add_there-requires-clause-gathers c =
     let at-loop = c.loop-i in
     let pre = c.requires in
     gathers_with _ at-loop.invariant.1.0 pre
-
-pub add_there-requires-clause-i_lt_d : goal.add_there-requires-clause-i_lt_d
-add_there-requires-clause-i_lt_d c =
-    let at-loop = c.loop-i in
-    let pre = c.requires in
-    c.loop-i-test.true
 
 pub loop-i-preserved : goal.loop-i-preserved
 loop-i-preserved c =

@@ -6,18 +6,6 @@ use borrow.Author.Rules.{rules}
 use Rattle.stripe.proofs.SolveLaws.{rest_both, gathers_with}
 use Rattle.stripe.proofs.solve.add_rest.Goals as goal
 
-pub add_block-requires-clause-work_len : goal.add_block-requires-clause-work_len
-add_block-requires-clause-work_len c =
-    let a = c.args in
-    let pre = c.requires in
-    pre.working
-
-pub add_block-requires-clause-array_len : goal.add_block-requires-clause-array_len
-add_block-requires-clause-array_len c =
-    let a = c.args in
-    let pre = c.requires in
-    pre.whole
-
 pub add_block-requires-clause-b_in_bounds : goal.add_block-requires-clause-b_in_bounds
 add_block-requires-clause-b_in_bounds c =
     let a = c.args in

@@ -16,18 +16,6 @@ returns-then-i-y c =
     let a = c.args in
     there-none a.ns.now a.b (a.array.now ++ a.log.now) a.work.now c.requires.gathers.working a.x a.y a.i (inr c.if-i-y.true)
 
-pub add_block-requires-clause-work_len : goal.add_block-requires-clause-work_len
-add_block-requires-clause-work_len c =
-    let a = c.args in
-    let pre = c.requires in
-    pre.gathers.working
-
-pub add_block-requires-clause-array_len : goal.add_block-requires-clause-array_len
-add_block-requires-clause-array_len c =
-    let a = c.args in
-    let pre = c.requires in
-    pre.gathers.whole
-
 pub add_block-requires-clause-b_in_bounds : goal.add_block-requires-clause-b_in_bounds
 add_block-requires-clause-b_in_bounds c =
     let a = c.args in

@@ -12,12 +12,6 @@ double_add_row-requires-clause-b_in_bounds c =
     let pre = c.requires in
     fits a.k a.n a.b a.array.now pre.array_len c.if-k-n.true
 
-pub double_add_row-requires-clause-work_len : goal.double_add_row-requires-clause-work_len
-double_add_row-requires-clause-work_len c =
-    let a = c.args in
-    let pre = c.requires in
-    pre.work_len
-
 pub returns-then-k-n : goal.returns-then-k-n
 returns-then-k-n c =
     let a = c.args in
@@ -34,12 +28,6 @@ double_add_row-requires-2-clause-b_in_bounds c =
     let a = c.args in
     let pre = c.requires in
     log-fits a.k a.n a.b (length a.array.now) (length a.log.now) pre.array_len (omega arith) pre.b_in_bounds
-
-pub double_add_row-requires-2-clause-work_len : goal.double_add_row-requires-2-clause-work_len
-double_add_row-requires-2-clause-work_len c =
-    let a = c.args in
-    let pre = c.requires in
-    pre.work_len
 
 pub returns : goal.returns
 returns c =

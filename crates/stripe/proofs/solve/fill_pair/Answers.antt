@@ -11,11 +11,13 @@ returns-clause-products c =
     let a = c in
     let filled = c.fill_multiples in
     let divisor = c.inv.ensures ∙ ap inverse c.coefficient_of.ensures in
-    let whole = filled_products a.args.x a.args.y filled.new.t (c.t-1.given ∙ a.requires.t_len) (λ k h. filled.ensures.multiples k h ∙ ap (λ (v : ℕ). times v k) divisor) in whole.0
+    let whole = filled_products a.args.x a.args.y filled.new.t (c.t-1.given ∙ a.requires.t_len) (λ k h. filled.ensures.multiples k h ∙ ap (λ (v : ℕ). times v k) divisor) in
+    whole.0
 
 pub returns-clause-t_after : goal.returns-clause-t_after
 returns-clause-t_after c =
     let a = c in
     let filled = c.fill_multiples in
     let divisor = c.inv.ensures ∙ ap inverse c.coefficient_of.ensures in
-    let whole = filled_products a.args.x a.args.y filled.new.t (c.t-1.given ∙ a.requires.t_len) (λ k h. filled.ensures.multiples k h ∙ ap (λ (v : ℕ). times v k) divisor) in whole.1
+    let whole = filled_products a.args.x a.args.y filled.new.t (c.t-1.given ∙ a.requires.t_len) (λ k h. filled.ensures.multiples k h ∙ ap (λ (v : ℕ). times v k) divisor) in
+    whole.1

@@ -7,25 +7,8 @@ use Rattle.stripe.proofs.solve.fit_pair.Goals as goal
 pub overflow_cast-t : goal.overflow_cast-t
 overflow_cast-t c = omega (arith, c.slice_known-1.given 256)
 
-pub returns-then-t-x-clause-products_2 : goal.returns-then-t-x-clause-products_2
-returns-then-t-x-clause-products_2 c = c.fill_pair.ensures.products
-
-pub returns-then-t-x-clause-t_after : goal.returns-then-t-x-clause-t_after
-returns-then-t-x-clause-t_after c = c.fill_pair.ensures.t_after
-
 pub overflow_cast-t-2 : goal.overflow_cast-t-2
 overflow_cast-t-2 c = omega (arith, c.slice_known-1.given 257)
-
-pub returns-then-t-y-clause-products_2 : goal.returns-then-t-y-clause-products_2
-returns-then-t-y-clause-products_2 c = c.fill_pair-then-t-y.ensures.products
-
-pub returns-then-t-y-clause-t_after : goal.returns-then-t-y-clause-t_after
-returns-then-t-y-clause-t_after c = c.fill_pair-then-t-y.ensures.t_after
-
-pub returns-else-t-y-clause-products_2 : goal.returns-else-t-y-clause-products_2
-returns-else-t-y-clause-products_2 c =
-    let a = c in
-    a.requires.products
 
 pub returns-else-t-y-clause-t_after : goal.returns-else-t-y-clause-t_after
 returns-else-t-y-clause-t_after c =

@@ -9,35 +9,17 @@ use Rattle.stripe.specs.Parity.{weight}
 use Rattle.stripe.proofs.SolveLaws.{coefficient_both, coefficient_alone}
 use Rattle.stripe.proofs.solve.fit_products.Goals as goal
 
-pub returns-then-d-y-clause-products_2 : goal.returns-then-d-y-clause-products_2
-returns-then-d-y-clause-products_2 c =
-    let a = c.args in
-    let fitted = c.fit_pair.ensures in
-    fitted.products_2
-
 pub returns-then-d-y-clause-t_after : goal.returns-then-d-y-clause-t_after
 returns-then-d-y-clause-t_after c =
     let a = c.args in
     let fitted = c.fit_pair.ensures in
     fitted.t_after ∙ ap inverse (coefficient_alone 16 a.x 16 (le_refl 16) ∙ sym (coefficient_alone a.d a.x a.y c.if-d-y.true))
 
-pub returns-then-y-x-clause-products_2 : goal.returns-then-y-x-clause-products_2
-returns-then-y-x-clause-products_2 c =
-    let a = c.args in
-    let fitted = c.fit_pair-then-y-x.ensures in
-    fitted.products_2
-
 pub returns-then-y-x-clause-t_after : goal.returns-then-y-x-clause-t_after
 returns-then-y-x-clause-t_after c =
     let a = c.args in
     let fitted = c.fit_pair-then-y-x.ensures in
     fitted.t_after ∙ ap inverse (coefficient_both 16 a.y a.x (omega arith) ∙ xor_comm (weight a.y) (weight a.x) ∙ sym (coefficient_both a.d a.x a.y (omega arith)))
-
-pub returns-clause-products_2 : goal.returns-clause-products_2
-returns-clause-products_2 c =
-    let a = c.args in
-    let fitted = c.fit_pair-2.ensures in
-    fitted.products_2
 
 pub returns-clause-t_after : goal.returns-clause-t_after
 returns-clause-t_after c =

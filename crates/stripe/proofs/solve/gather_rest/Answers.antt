@@ -6,18 +6,6 @@ use borrow.Author.Rules.{rules}
 use Rattle.stripe.proofs.SolveLaws.{rest_gathered, gathers_with}
 use Rattle.stripe.proofs.solve.gather_rest.Goals as goal
 
-pub take_block-requires-clause-work_len : goal.take_block-requires-clause-work_len
-take_block-requires-clause-work_len c =
-    let a = c.args in
-    let pre = c.requires in
-    pre.working
-
-pub take_block-requires-clause-array_len : goal.take_block-requires-clause-array_len
-take_block-requires-clause-array_len c =
-    let a = c.args in
-    let pre = c.requires in
-    pre.whole
-
 pub take_block-requires-clause-b_in_bounds : goal.take_block-requires-clause-b_in_bounds
 take_block-requires-clause-b_in_bounds c =
     let a = c.args in

@@ -21,18 +21,6 @@ returns-then-i-y c =
     let a = c.args in
     step_second a.ns.now a.b (a.array.now ++ a.log.now) a.work.now _ _ a.d a.x a.y a.i c.if-i-x.false c.if-i-y.true c.double_row-then-i-y.ensures c.add_rest.ensures
 
-pub double_add_block-requires-clause-work_len : goal.double_add_block-requires-clause-work_len
-double_add_block-requires-clause-work_len c =
-    let a = c.args in
-    let pre = c.requires in
-    pre.gathers.working
-
-pub double_add_block-requires-clause-array_len : goal.double_add_block-requires-clause-array_len
-double_add_block-requires-clause-array_len c =
-    let a = c.args in
-    let pre = c.requires in
-    pre.gathers.whole
-
 pub double_add_block-requires-clause-b_in_bounds : goal.double_add_block-requires-clause-b_in_bounds
 double_add_block-requires-clause-b_in_bounds c =
     let a = c.args in

@@ -10,44 +10,20 @@ returns-then-comes_from_p-clause-work_after c =
     let a = c.args in
     from_p_lem a.ns.now a.b (a.array.now ++ a.log.now) _ a.d a.x a.y (from_p_when a.d a.x a.y (sym c.comes_from_p.ensures ∙ c.if-comes_from_p.true)) c.gather_rest.ensures
 
-pub returns-then-comes_from_p-clause-products_2 : goal.returns-then-comes_from_p-clause-products_2
-returns-then-comes_from_p-clause-products_2 c =
-    let a = c.args in
-    c.requires.products
-
 pub divide-requires-clause-gathers : goal.divide-requires-clause-gathers
 divide-requires-clause-gathers c =
-    let a = c.args in
     let pre = c.requires in
-    let way = from_q_when a.d a.x a.y (sym c.comes_from_p.ensures ∙ c.if-comes_from_p.false) in
     gathers_with _ (c.work-2-1.given ∙ pre.gathers.working) pre.gathers
-
-pub divide-requires-clause-products : goal.divide-requires-clause-products
-divide-requires-clause-products c =
-    let a = c.args in
-    let pre = c.requires in
-    let way = from_q_when a.d a.x a.y (sym c.comes_from_p.ensures ∙ c.if-comes_from_p.false) in
-    pre.products
-
-pub divide-requires-clause-x_lt_d : goal.divide-requires-clause-x_lt_d
-divide-requires-clause-x_lt_d c =
-    let a = c.args in
-    let pre = c.requires in
-    let way = from_q_when a.d a.x a.y (sym c.comes_from_p.ensures ∙ c.if-comes_from_p.false) in
-    pre.x_lt_d
 
 pub divide-requires-clause-y_le_d : goal.divide-requires-clause-y_le_d
 divide-requires-clause-y_le_d c =
     let a = c.args in
-    let pre = c.requires in
     let way = from_q_when a.d a.x a.y (sym c.comes_from_p.ensures ∙ c.if-comes_from_p.false) in
     way.1
 
 pub divide-requires-clause-held : goal.divide-requires-clause-held
 divide-requires-clause-held c =
-    let a = c.args in
     let pre = c.requires in
-    let way = from_q_when a.d a.x a.y (sym c.comes_from_p.ensures ∙ c.if-comes_from_p.false) in
     pre.held (sym c.comes_from_p.ensures ∙ c.if-comes_from_p.false)
 
 pub returns-clause-work_after : goal.returns-clause-work_after
@@ -55,9 +31,3 @@ returns-clause-work_after c =
     let a = c.args in
     let way = from_q_when a.d a.x a.y (sym c.comes_from_p.ensures ∙ c.if-comes_from_p.false) in
     from_q_lem a.ns.now a.b (a.array.now ++ a.log.now) _ _ a.d a.x a.y way.0 way.1 c.gather_weighted.ensures c.divide.ensures.work_after
-
-pub returns-clause-products_2 : goal.returns-clause-products_2
-returns-clause-products_2 c =
-    let a = c.args in
-    let way = from_q_when a.d a.x a.y (sym c.comes_from_p.ensures ∙ c.if-comes_from_p.false) in
-    c.divide.ensures.products_2

@@ -11,32 +11,12 @@ divide-requires-clause-gathers c =
     let pre = c.requires in
     gathers_with _ (c.work-1.given ∙ pre.gathers.working) pre.gathers
 
-pub divide-requires-clause-products : goal.divide-requires-clause-products
-divide-requires-clause-products c =
-    let pre = c.requires in
-    pre.products
-
-pub divide-requires-clause-x_lt_d : goal.divide-requires-clause-x_lt_d
-divide-requires-clause-x_lt_d c =
-    let pre = c.requires in
-    pre.x_lt_d
-
 pub divide-requires-clause-y_le_d : goal.divide-requires-clause-y_le_d
 divide-requires-clause-y_le_d c =
     let pre = c.requires in
     omega (arith, pre.y_lt_d)
 
-pub divide-requires-clause-held : goal.divide-requires-clause-held
-divide-requires-clause-held c =
-    let pre = c.requires in
-    pre.held
-
 pub returns-clause-work_after : goal.returns-clause-work_after
 returns-clause-work_after c =
     let a = c.args in
     of_sum_lem a.ns.now a.b (a.array.now ++ a.log.now) _ _ a.d a.x a.y c.gather_weighted.ensures c.divide.ensures.work_after
-
-pub returns-clause-products_2 : goal.returns-clause-products_2
-returns-clause-products_2 c =
-    let a = c.args in
-    c.divide.ensures.products_2

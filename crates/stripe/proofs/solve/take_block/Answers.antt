@@ -15,7 +15,6 @@ copy_block-requires-clause-b_in_bounds c =
 
 pub copy_block-requires-clause-b_in_bounds_2 : goal.copy_block-requires-clause-b_in_bounds_2
 copy_block-requires-clause-b_in_bounds_2 c =
-    let a = c.args in
     let pre = c.requires in
     omega (arith, pre.work_len)
 
@@ -33,7 +32,6 @@ copy_block-requires-2-clause-b_in_bounds c =
 
 pub copy_block-requires-2-clause-b_in_bounds_2 : goal.copy_block-requires-2-clause-b_in_bounds_2
 copy_block-requires-2-clause-b_in_bounds_2 c =
-    let a = c.args in
     let pre = c.requires in
     omega (arith, pre.work_len)
 

@@ -1,7 +1,6 @@
 -- `stripe::weights::weight_of` meets its contract. The loop's invariant: after k doublings w is weight k.
 -- Assumes nothing.
 use mathlib.Core.Path.{sym, ap, ◌∙◌}
-use Prim.Native.Nat.{◌-◌}
 use native.Mathlib.Omega.{arith}
 use Rattle.field.specs.Field.{double}
 use Rattle.field.proofs.Laws.{pow2_zero, pow2_suc}

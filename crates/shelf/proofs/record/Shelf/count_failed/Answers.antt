@@ -22,8 +22,8 @@ loop-i-preserved c =
     let inv = c.loop-i.invariant in (
       omega arith,
       elim c.if-failed-i.branch [
-        then-failed-i w ↦ (omega (arith, w.sum-is), w.sum-is ∙ count_passed i sum f true inv.1.1 (sym w.if-failed-i.true) refl)
-      | else-failed-i w ↦ (omega (arith, w.sum-is), w.sum-is ∙ count_left i sum f false inv.1.1 (sym w.if-failed-i.false) refl)
+        | then-failed-i w ↦ (omega (arith, w.sum-is), w.sum-is ∙ count_passed i sum f true inv.1.1 (sym w.if-failed-i.true) refl)
+        | else-failed-i w ↦ (omega (arith, w.sum-is), w.sum-is ∙ count_left i sum f false inv.1.1 (sym w.if-failed-i.false) refl)
       ],
     )
 

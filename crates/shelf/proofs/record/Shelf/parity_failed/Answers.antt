@@ -15,11 +15,6 @@ returns-then-g-eq1 c =
     let a = c in
     sym (parity-only a.args.self a.args.x c.if-g-eq1.true (sym c.role_failed.ensures ∙ c.if-role_failed.false))
 
-pub role_failed-requires-2-clause-sized : goal.role_failed-requires-2-clause-sized
-role_failed-requires-2-clause-sized c =
-    let a = c in
-    a.requires
-
 pub role_failed-requires-2-clause-i_bound : goal.role_failed-requires-2-clause-i_bound
 role_failed-requires-2-clause-i_bound c =
     let a = c in
