@@ -1,17 +1,22 @@
 // Blocks as a fetch gives them: those of sound disks as a read does, those of failed ones from the log, or worked back by parity from the
 // originals of their stripe.
-ghost use Rattle.std.specs.Prelude.{◌≡◌, ◌+◌, ◌*◌, ◌≤◌, ◌<◌, length};
+//
+// Lost blocks are tested first, by `confirm`; the one that was tested last is in a working block then, and is taken from there.
+ghost use Rattle.std.specs.Prelude.{true, false, not, ◌≡◌, ◌+◌, ◌*◌, ◌≤◌, ◌<◌, length};
 ghost use Rattle.stripe.specs.Blocks.{put};
-ghost use Rattle.stripe.specs.below.Steps.{Products};
 ghost use Rattle.stripe.specs.Parity.{Recoverable};
+ghost use Rattle.shelf.specs.below.Tables.{Tests};
 ghost use Rattle.shelf.specs.below.Records.{failed_role};
 ghost use Rattle.shelf.specs.Counting.{lesser};
+ghost use Rattle.shelf.specs.Members.{array_members};
+ghost use Rattle.shelf.specs.Calls.{some_disputed};
 ghost use Rattle.shelf.specs.Lent.{lent, state_of, fetch_buffer};
-ghost use Rattle.shelf.specs.below.Reading.{Ready, Working, WorkingAt, solved_block, lost_block, served_block, served_to};
+ghost use Rattle.shelf.specs.below.Reading.{Ready, Working, WorkingAt, Known, solved_block, lost_block, served_block, served_to};
 
-use super::{read, record, sources, words};
+use super::{confirm, read, record, sources, words};
 
-// Puts the n blocks from address a on in out, one after another.
+// Puts the n blocks from address a on in out, one after another, unless one that it works back is disputed; then it stores nothing and
+// answers false.
 pub fn fetch_blocks(
     shelf: record::Shelf,
     a: usize,
@@ -20,34 +25,25 @@ pub fn fetch_blocks(
     array: &[u8],
     log: &[u8],
     list: &[u8],
-)
+) -> bool
     requires ready { Ready (lent shelf array.now log.now list.now) }
     requires n_bound { a + n ≤ shelf.geometry.d * shelf.geometry.s }
     requires out_len { length out.old ≡ n * shelf.geometry.b }
-    ensures { out.new ≡ fetch_buffer shelf.geometry (state_of (lent shelf array.now log.now list.now)) a n }
+    ensures value { result ≡ not (some_disputed shelf.geometry (state_of (lent shelf array.now log.now list.now)) a n) }
+    ensures out_after { result ≡ true → out.new ≡ fetch_buffer shelf.geometry (state_of (lent shelf array.now log.now list.now)) a n }
+    ensures out_unchanged { result ≡ false → out.new ≡ out.old }
 {
     let g = shelf.geometry;
     if !shelf.array_failed() {
         read::read_blocks(g, a, n, out, array);
-        return;
+        return true;
     }
     let mut work = [0u8; 4096];
-    let mut products = [0u8; 258];
-    fetch_each(
-        shelf,
-        a,
-        n,
-        out,
-        array,
-        log,
-        list,
-        &mut work[..g.b],
-        &mut products,
-    );
+    fetch_confirmed(shelf, a, n, out, array, log, list, &mut work[..g.b])
 }
 
-// Does the same stripe by stripe, with a working block of b bytes; the table of products may be that of any pair of missing blocks.
-fn fetch_each(
+// Does the same with a working block of b bytes: tests the lost ones among the blocks, then puts all n in.
+fn fetch_confirmed(
     shelf: record::Shelf,
     a: usize,
     n: usize,
@@ -56,9 +52,36 @@ fn fetch_each(
     log: &[u8],
     list: &[u8],
     work: &mut [u8],
-    products: &mut [u8],
+) -> bool
+    requires working { Working (lent shelf array.now log.now list.now) work.old }
+    requires n_bound { a + n ≤ shelf.geometry.d * shelf.geometry.s }
+    requires out_len { length out.old ≡ n * shelf.geometry.b }
+    ensures value { result ≡ not (some_disputed shelf.geometry (state_of (lent shelf array.now log.now list.now)) a n) }
+    ensures out_after { result ≡ true → out.new ≡ fetch_buffer shelf.geometry (state_of (lent shelf array.now log.now list.now)) a n }
+    ensures out_unchanged { result ≡ false → out.new ≡ out.old }
+{
+    let found = confirm::confirm_blocks(shelf, a, n, array, log, list, work);
+    if found.disputed {
+        return false;
+    }
+    fetch_each(shelf, a, n, out, array, log, list, work, found.known);
+    true
+}
+
+// Puts the n blocks from address a on in out, stripe by stripe. The working block has the block of address known, unless that is none.
+fn fetch_each(
+    shelf: record::Shelf,
+    a: usize,
+    n: usize,
+    out: &mut [u8],
+    array: &[u8],
+    log: &[u8],
+    list: &[u8],
+    work: &[u8],
+    known: usize,
 )
-    requires working { Working (lent shelf array.now log.now list.now) work.old products.old }
+    requires working { Working (lent shelf array.now log.now list.now) work.now }
+    requires known { Known (lent shelf array.now log.now list.now) known work.now }
     requires n_bound { a + n ≤ shelf.geometry.d * shelf.geometry.s }
     requires out_len { length out.old ≡ n * shelf.geometry.b }
     ensures { out.new ≡ fetch_buffer shelf.geometry (state_of (lent shelf array.now log.now list.now)) a n }
@@ -69,7 +92,7 @@ fn fetch_each(
         let spot = read::spot_of(a + j, d);
         let m = lesser(d - spot.i, n - j);
         fetch_stripe(
-            shelf, spot.x, spot.i, m, out, j, array, log, list, work, products,
+            shelf, spot.x, spot.i, m, out, j, array, log, list, work, known,
         );
         j += m;
     }
@@ -85,7 +108,7 @@ fn lesser(a: usize, b: usize) -> usize
     b
 }
 
-// Puts m blocks of stripe x, from data index i on, in out, from its block j on. The stripe's entries are read once for all of them.
+// Puts m blocks of stripe x, from data index i on, in out, from its block j on.
 fn fetch_stripe(
     shelf: record::Shelf,
     x: usize,
@@ -96,99 +119,104 @@ fn fetch_stripe(
     array: &[u8],
     log: &[u8],
     list: &[u8],
-    work: &mut [u8],
-    products: &mut [u8],
+    work: &[u8],
+    known: usize,
 )
-    requires working { Working (lent shelf array.now log.now list.now) work.old products.old }
+    requires working { Working (lent shelf array.now log.now list.now) work.now }
+    requires known { Known (lent shelf array.now log.now list.now) known work.now }
     requires x_lt_s { x < shelf.geometry.s }
     requires m_bound { i + m ≤ shelf.geometry.d }
     requires m_bound_2 { j + m ≤ 1048576 }
     requires b_in_bounds { (j + m) * shelf.geometry.b ≤ length out.old }
-    ensures out_after { out.new ≡ served_to (lent shelf array.now log.now list.now) x i j m out.old }
-    ensures products { Products products.new }
+    ensures { out.new ≡ served_to (lent shelf array.now log.now list.now) x i j m out.old }
 {
     let lost = shelf.failed_roles(x);
-    let from = sources::sources_of(shelf, list, x, lost);
     let mut k: usize = 0;
     while k < m {
         put_block(
             shelf,
             x,
             i + k,
-            lost[i + k],
-            from,
+            lost,
             out,
             j + k,
             array,
             log,
             list,
             work,
-            products,
+            known,
         );
         k += 1;
     }
 }
 
-// Puts the block with data index i of stripe x, which is lost where its member has failed, in out, as its block j.
+// Puts the block with data index i of stripe x, whose roles on failed members lost tells, in out, as its block j.
 fn put_block(
     shelf: record::Shelf,
     x: usize,
     i: usize,
-    lost: bool,
-    from: sources::Sources,
+    lost: [bool; 18],
     out: &mut [u8],
     j: usize,
     array: &[u8],
     log: &[u8],
     list: &[u8],
-    work: &mut [u8],
-    products: &mut [u8],
+    work: &[u8],
+    known: usize,
 )
-    requires working_at { WorkingAt (lent shelf array.now log.now list.now) x i from work.old products.old }
-    requires lost_value { lost ≡ failed_role shelf x i }
+    requires working { Working (lent shelf array.now log.now list.now) work.now }
+    requires known { Known (lent shelf array.now log.now list.now) known work.now }
+    requires x_lt_s { x < shelf.geometry.s }
+    requires i_lt_d { i < shelf.geometry.d }
+    requires tests { Tests (array_members shelf.geometry) (failed_role shelf x) lost }
     requires b_in_bounds { j * shelf.geometry.b + shelf.geometry.b ≤ length out.old }
-    ensures out_after { out.new ≡ put shelf.geometry.b j
+    ensures { out.new ≡ put shelf.geometry.b j
         (served_block (lent shelf array.now log.now list.now) x i) out.old }
-    ensures products { Products products.new }
 {
     let g = shelf.geometry;
-    if !lost {
+    if !lost[i] {
         let k = stripe::places::block_number(g.layout, g.d, g.parities, g.s, x, i);
         stripe::blocks::copy_block(array, k, out, j, g.b);
         return;
     }
-    let latest = from.latest;
-    let r = latest[i];
-    if r != words::NONE {
-        stripe::blocks::copy_block(log, r, out, j, g.b);
+    if x * g.d + i == known {
+        stripe::blocks::copy_block(work, 0, out, j, g.b);
         return;
     }
-    put_lost(shelf, x, i, from, out, j, array, log, list, work, products);
+    put_failed(shelf, x, i, lost, out, j, array, log, list);
 }
 
-// Puts the block with data index i of stripe x, worked back by parity, in out, as its block j.
-fn put_lost(
+// Puts the block with data index i of stripe x, which is on a failed member, in out, as its block j: from the log, or worked back there.
+fn put_failed(
     shelf: record::Shelf,
     x: usize,
     i: usize,
-    from: sources::Sources,
+    lost: [bool; 18],
     out: &mut [u8],
     j: usize,
     array: &[u8],
     log: &[u8],
     list: &[u8],
-    work: &mut [u8],
-    products: &mut [u8],
 )
-    requires working_at { WorkingAt (lent shelf array.now log.now list.now) x i from work.old products.old }
+    requires ready { Ready (lent shelf array.now log.now list.now) }
+    requires x_lt_s { x < shelf.geometry.s }
+    requires i_lt_d { i < shelf.geometry.d }
+    requires tests { Tests (array_members shelf.geometry) (failed_role shelf x) lost }
+    requires i_value { failed_role shelf x i ≡ true }
     requires b_in_bounds { j * shelf.geometry.b + shelf.geometry.b ≤ length out.old }
-    ensures out_after { out.new ≡ put shelf.geometry.b j
-        (lost_block (lent shelf array.now log.now list.now) x i) out.old }
-    ensures products { Products products.new }
+    ensures { out.new ≡ put shelf.geometry.b j
+        (served_block (lent shelf array.now log.now list.now) x i) out.old }
 {
-    let g = shelf.geometry;
-    recover_block(shelf, x, i, from, array, log, list, work, products);
-    stripe::blocks::copy_block(work, 0, out, j, g.b);
+    let b = shelf.geometry.b;
+    let from = sources::sources_of(shelf, list, x, lost);
+    let latest = from.latest;
+    let r = latest[i];
+    if r != words::NONE {
+        stripe::blocks::copy_block(log, r, out, j, b);
+        return;
+    }
+    let at = j * b;
+    recover_block(shelf, x, i, from, array, log, list, &mut out[at..at + b]);
 }
 
 // Works back the block with data index i of stripe x in work.
@@ -201,15 +229,13 @@ fn recover_block(
     log: &[u8],
     list: &[u8],
     work: &mut [u8],
-    products: &mut [u8],
 )
-    requires { WorkingAt (lent shelf array.now log.now list.now) x i from work.old products.old }
-    ensures work_after { work.new ≡ lost_block (lent shelf array.now log.now list.now) x i }
-    ensures products { Products products.new }
+    requires { WorkingAt (lent shelf array.now log.now list.now) x i from work.old }
+    ensures { work.new ≡ lost_block (lent shelf array.now log.now list.now) x i }
 {
     let missing = from.missing;
     let y = sources::other_missing(shelf.geometry, missing, i);
-    solve_originals(shelf, x, i, y, from, array, log, list, work, products);
+    solve_originals(shelf, x, i, y, from, array, log, list, work);
 }
 
 // Solves the block with data index i of stripe x in work, from the stripe's originals, where role y is missing too or is i itself.
@@ -223,12 +249,10 @@ pub fn solve_originals(
     log: &[u8],
     list: &[u8],
     work: &mut [u8],
-    products: &mut [u8],
 )
-    requires working_at { WorkingAt (lent shelf array.now log.now list.now) x i from work.old products.old }
+    requires working_at { WorkingAt (lent shelf array.now log.now list.now) x i from work.old }
     requires recoverable { Recoverable shelf.geometry.parities i y }
-    ensures work_after { work.new ≡ solved_block (lent shelf array.now log.now list.now) x i y }
-    ensures products { Products products.new }
+    ensures { work.new ≡ solved_block (lent shelf array.now log.now list.now) x i y }
 {
     let g = shelf.geometry;
     let ns = from.originals;
@@ -238,7 +262,6 @@ pub fn solve_originals(
         g.array_members() * g.s,
         &ns,
         work,
-        products,
         g.d,
         g.b,
         i,

@@ -1,0 +1,12 @@
+-- `stripe::rows::take_row` meets its contract. The loop's invariant: the bytes passed are those of the source.
+-- Assumes nothing.
+use Prim.Native.Nat.{◌-◌, ◌≤◌}
+use Rattle.stripe.specs.below.Steps.{taken}
+use Rattle.stripe.proofs.Lists.{Filled}
+use Rattle.stripe.proofs.rows.take_row.Given as goal
+
+abbrev pub invariant-loop-j : goal.invariant-loop-j
+invariant-loop-j l = (l.j ≤ l.w) × Filled l.initial.row l.row l.j (taken l.at l.src)
+
+abbrev pub decreases-loop-j : goal.decreases-loop-j
+decreases-loop-j l = l.w - l.j
