@@ -77,8 +77,8 @@ void fail(const struct job *job, const char *who, const char *what);
 /* The lines (jobs.c): by work, then by measures, and those of calls that change the list by the number of
    blocks listed at last; those of recovery from stale stripes, all with the measures of that number, by work, then
    by slots, then by blocks listed; those of the test of the list by d, then by slots, then by blocks listed; those
-   of a small array by number in laid_works, then by measures; those of a stripe without Q by work, then by their
-   own measures. They are made, and each variant's results compared with what they must be. */
+   of a small array by number in laid_works, then by measures; those of a stripe without Q by their own
+   measures. They are made, and each variant's results compared with what they must be. */
 enum { MEASURES = 4, COUNTS = 3, SLOT_COUNTS = 3, STALE_MEASURES = 2, TEST_WIDTHS = 2, TEST_COUNTS = 4 };
 enum { LAID_WORKS = 9, LAID_COUNT = 1, P_MEASURES = 6 };
 enum {
@@ -87,7 +87,7 @@ enum {
     TEST_LINES = STALE_LINES + (TEST - STALE_WORKS) * SLOT_COUNTS * COUNTS,
     SMALL_LINES = TEST_LINES + TEST_WIDTHS * SLOT_COUNTS * TEST_COUNTS,
     P_LINES = SMALL_LINES + LAID_WORKS * MEASURES,
-    LINES = P_LINES + (WORKS - P_ALONE) * P_MEASURES
+    LINES = P_LINES + P_MEASURES
 };
 extern struct line lines[LINES];
 extern const enum work laid_works[LAID_WORKS];
@@ -152,17 +152,15 @@ void put_stripe(const struct job *job, uint32_t t);
 call_of_job copy_data, copy_blocks;
 
 /* The C rows (rows.c): blocks of b bytes, each stride bytes after the one before it, or, in the last three,
-   anywhere. init comes before the others. Where a block is tested, the answer tells whether the stored Q agrees with
-   it. They are there twice, with the doubling written in two ways. */
+   anywhere. init comes before the others. They are there twice, with the doubling written in two ways. */
 struct rows {
     void (*init)(void);
     void (*parity)(uint32_t d, size_t b, size_t stride, uint8_t *first);
     void (*sum)(uint32_t d, size_t b, uint8_t *stripe);
     void (*recover_one)(uint32_t d, size_t b, uint32_t x, uint8_t *stripe);
-    bool (*recover_tested)(uint32_t d, size_t b, uint32_t x, uint8_t *stripe);
     void (*recover_two)(uint32_t d, size_t b, uint32_t x, uint32_t y, uint8_t *stripe);
     void (*parity_at)(uint32_t d, size_t b, uint8_t *const *blocks);
-    bool (*recover_tested_at)(uint32_t d, size_t b, uint32_t x, uint8_t *const *blocks);
+    void (*recover_at)(uint32_t d, size_t b, uint32_t x, uint8_t *const *blocks);
     void (*recover_two_at)(uint32_t d, size_t b, uint32_t x, uint32_t y, uint8_t *const *blocks);
 };
 extern const struct rows plain_rows, mask_rows;
@@ -180,9 +178,8 @@ void check_tests(const struct job *job);
    that for SSE. isal_prepare comes before a job's calls. */
 const char *isal_version(void);
 void isal_prepare(const struct job *job);
-call_of_job isal_pq, isal_pq_all, isal_xor, isal_sums, isal_sums_all, isal_encode, isal_encode_tested,
-    isal_encode_all, isal_write;
-call_of_job isal_sse_pq, isal_sse_pq_all, isal_sse_xor, isal_sse_sums, isal_sse_sums_all, isal_sse_encode,
-    isal_sse_encode_tested, isal_sse_encode_all, isal_sse_write;
+call_of_job isal_pq, isal_pq_all, isal_xor, isal_xor_all, isal_encode, isal_encode_all, isal_write;
+call_of_job isal_sse_pq, isal_sse_pq_all, isal_sse_xor, isal_sse_xor_all, isal_sse_encode, isal_sse_encode_all,
+    isal_sse_write;
 
 #endif

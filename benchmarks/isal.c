@@ -12,7 +12,6 @@
 /* The blocks of the job's first stripe. */
 struct places {
     void *members[MOST_DATA + 2];     /* pq_gen: data, P, Q */
-    void *summed[MOST_DATA + 2];      /* pq_gen: the data with P for the missing block, that block, a second sum */
     uint8_t *sources[MOST_DATA + 1];  /* xor_gen and ec_encode_data: what is there; then the target */
     uint8_t *targets[2];              /* ec_encode_data: what is made */
 };
@@ -48,9 +47,7 @@ static void prepare_parity(const struct job *job)
     target_count = 2;
 }
 
-/* One data block from the others and P, or P from all data: a row of ones. With two parities the block is
-   tested: a second row is for the Q of the data so completed, where it adds its weight to that of each
-   other, and to P's. That Q goes behind the blocks that are copied. */
+/* One data block from the others and P, or P from all data: a row of ones. */
 static void prepare_one(const struct job *job)
 {
     uint32_t k = 0;
@@ -58,21 +55,10 @@ static void prepare_one(const struct job *job)
         if (i == job->x)
             continue;
         at.sources[k] = at.members[i];
-        coefficients[job->d + k] = (uint8_t)((i < job->d ? power(i) : 0) ^ power(job->x));
         coefficients[k++] = 1;
     }
     at.sources[k] = at.targets[0];
-    at.targets[1] = job->copy + (size_t)job->s * job->b;
-    target_count = job->parities;
-}
-
-/* The same by pq_gen: the sum of the other data and P, and the weighted sum of the same blocks. */
-static void prepare_sums(const struct job *job)
-{
-    for (uint32_t i = 0; i < job->d; i++)
-        at.summed[i] = at.members[i == job->x ? job->d : i];
-    at.summed[job->d] = at.targets[0];
-    at.summed[job->d + 1] = at.targets[1];
+    target_count = 1;
 }
 
 /* Two data blocks from the others, P and Q. With g for 2 to the power y - x, a for g / (g + 1) and
@@ -103,10 +89,9 @@ void isal_prepare(const struct job *job)
         at.members[i] = job->bytes + (size_t)i * job->s * job->b;
     at.targets[0] = fetches ? job->copy : at.members[job->x];
     at.targets[1] = at.members[job->y];
-    if (job->x == job->y) {
+    if (job->x == job->y)
         prepare_one(job);
-        prepare_sums(job);
-    } else if (job->x < job->d)
+    else if (job->x < job->d)
         prepare_two(job);
     else
         prepare_parity(job);
@@ -116,10 +101,8 @@ void isal_prepare(const struct job *job)
 /* Goes to the blocks of the next stripe. */
 static void advance(struct places *to, const struct job *job)
 {
-    for (uint32_t i = 0; i < job->d + job->parities; i++) {
+    for (uint32_t i = 0; i < job->d + job->parities; i++)
         to->members[i] = (uint8_t *)to->members[i] + job->b;
-        to->summed[i] = (uint8_t *)to->summed[i] + job->b;
-    }
     for (uint32_t i = 0; i < job->d + 1; i++)
         to->sources[i] += job->b;
     to->targets[0] += job->b;
@@ -158,18 +141,10 @@ static inline void chosen_encode(int len, int sources, int targets, uint8_t *by,
     clear_upper_halves();
 }
 
-/* Ends the program unless the second target is the stored Q. */
-static void test_q(const struct job *job)
-{
-    if (memcmp(at.targets[1], at.members[job->d + 1], job->b) != 0)
-        fail(job, variant_names[ISAL_PRODUCTS], "Q disagrees");
-}
-
-/* The calls of a set of ISA-L's functions: P and Q of one stripe; one data block, or P, as the xor of
-   the others; the same with the weighted sum, which is compared with nothing; the targets of the job,
-   P and Q or the missing blocks, by the prepared tables; one data block and Q by them, which is
-   compared; those that arrays need in every stripe of one kept by member, stripe by stripe; and each
-   stripe's data put in the array before its P and Q are made. */
+/* The calls of a set of ISA-L's functions: P and Q of one stripe; one data block as the xor of the
+   others and P; the targets of the job, P and Q or the missing blocks, by the prepared tables; each
+   of them in every stripe of an array kept by member, stripe by stripe; and each stripe's data put
+   in the array before its P and Q are made. */
 #define CALLS_OF(set, pq, xor, encode)                                                             \
     void set##_pq(const struct job *job)                                                           \
     {                                                                                              \
@@ -178,10 +153,6 @@ static void test_q(const struct job *job)
     void set##_xor(const struct job *job)                                                          \
     {                                                                                              \
         xor((int)job->d + 1, (int)job->b, (void **)at.sources);                                    \
-    }                                                                                              \
-    void set##_sums(const struct job *job)                                                         \
-    {                                                                                              \
-        pq((int)job->d + 2, (int)job->b, at.summed);                                               \
     }                                                                                              \
     void set##_encode(const struct job *job)                                                       \
     {                                                                                              \
@@ -193,16 +164,11 @@ static void test_q(const struct job *job)
         for (uint32_t t = 0; t < job->s; t++, advance(&now, job))                                  \
             pq((int)job->d + 2, (int)job->b, now.members);                                         \
     }                                                                                              \
-    void set##_encode_tested(const struct job *job)                                                \
-    {                                                                                              \
-        set##_encode(job);                                                                         \
-        test_q(job);                                                                               \
-    }                                                                                              \
-    void set##_sums_all(const struct job *job)                                                     \
+    void set##_xor_all(const struct job *job)                                                      \
     {                                                                                              \
         struct places now = at;                                                                    \
         for (uint32_t t = 0; t < job->s; t++, advance(&now, job))                                  \
-            pq((int)job->d + 2, (int)job->b, now.summed);                                          \
+            xor((int)job->d + 1, (int)job->b, (void **)now.sources);                               \
     }                                                                                              \
     void set##_encode_all(const struct job *job)                                                   \
     {                                                                                              \

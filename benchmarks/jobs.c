@@ -41,7 +41,7 @@ void name_members(struct job *job)
     enum work w = job->work;
     job->x = job->d;
     job->y = job->d + 1;
-    if (w == ONE_BLOCK || w == FETCH_ONE || w == REBUILD_ONE || w == ONE_WITHOUT_Q)
+    if (w == ONE_BLOCK || w == FETCH_ONE || w == REBUILD_ONE)
         job->x = job->y = 2;
     if (w == REBUILD_WITH_P || w == REBUILD_WITH_Q) {
         job->x = 2;
@@ -148,9 +148,9 @@ static void small_lines(unsigned m, uint8_t *copy)
 }
 
 /* A line for a stripe without Q. */
-static struct line p_line(enum work work, const uint32_t m[2], uint8_t *copy)
+static struct line p_line(const uint32_t m[2], uint8_t *copy)
 {
-    struct line line = random_line(work, m, 1, copy);
+    struct line line = random_line(P_ALONE, m, 1, copy);
     line.job = without_q(&line.job);
     return line;
 }
@@ -170,8 +170,8 @@ void make_lines(void)
         small_lines(m, copy);
     }
     make_test_lines();
-    for (unsigned k = 0; k < LINES - P_LINES; k++)
-        lines[P_LINES + k] = p_line((enum work)(P_ALONE + k / P_MEASURES), p_measures[k % P_MEASURES], copy);
+    for (unsigned k = 0; k < P_MEASURES; k++)
+        lines[P_LINES + k] = p_line(p_measures[k], copy);
 }
 
 /* Makes bytes differ from what they must be. */

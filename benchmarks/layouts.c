@@ -91,17 +91,17 @@ void c_read(const struct job *job)
     }
 }
 
-/* Fills member x: its data block, which is tested by Q, or P and Q where it has one of them. */
+/* Fills member x: its data block, or P and Q where it has one of them. */
 void c_rebuild(const struct job *job)
 {
     uint8_t *blocks[MOST_DATA + 2];
     for (uint32_t t = 0; t < job->s; t++) {
         uint32_t role = (job->x + job->d + 2 - member_of(job, t, 0)) % (job->d + 2);
         find_blocks(job, t, blocks);
-        if (role >= job->d)
+        if (role < job->d)
+            mask_rows.recover_at(job->d, job->b, role, blocks);
+        else
             mask_rows.parity_at(job->d, job->b, blocks);
-        else if (!mask_rows.recover_tested_at(job->d, job->b, role, blocks))
-            fail(job, variant_names[C_FIXED], "Q disagrees");
     }
 }
 

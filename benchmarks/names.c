@@ -3,7 +3,7 @@
 
 const char *const work_names[WORKS] = {
     [PARITY] = "parity of a stripe",
-    [ONE_BLOCK] = "one data block recovered, tested by Q",
+    [ONE_BLOCK] = "one data block recovered",
     [TWO_BLOCKS] = "two data blocks recovered",
     [ALL_STRIPES] = "parity of an array",
     [WRITE] = "`shelf_write` of all blocks, mode 0",
@@ -28,7 +28,6 @@ const char *const work_names[WORKS] = {
     [STALE_BLOCK] = "`shelf_fetch` of a lost block",
     [TEST] = "test of the list",
     [P_ALONE] = "P of a stripe, without Q",
-    [ONE_WITHOUT_Q] = "one data block recovered, without Q",
 };
 
 const char *const variant_names[VARIANTS] = {

@@ -130,8 +130,7 @@ static void points_of_isal(void)
 {
     point("ISA-L %s: by the code that it chooses for the processor, and by that for SSE. The former leaves the upper halves of"
           " the vector registers in use, which slows all SSE code that is called next; so vzeroupper follows each call of it,"
-          " within ISA-L's time. In the six rows and in the picture it is the fastest of ISA-L's functions for the work; for one"
-          " data block pq_gen, which compares nothing, counts among them.", run.isal);
+          " within ISA-L's time. In the six rows and in the picture it is the fastest of ISA-L's functions for the work.", run.isal);
     point("Its pq_gen and xor_gen for SSE store past the cache. Where every call stores the same short blocks, it waits for the"
           " stores of the one before, so that their figures of one stripe with B 512 are below what they reach with other stripes"
           " by turns.");
@@ -150,8 +149,8 @@ static void points_of_variants(void)
     else
         point("ISA-L was not there, and is left out.");
     point("Plain C: gcc %s -O3, row by row over whole blocks. The doubling is written as this library writes it (C rows) and by"
-          " shift and mask (C rows by mask), which makes no difference where one block is recovered without Q. In the six rows and"
-          " in the picture it is the faster of the two.", __VERSION__);
+          " shift and mask (C rows by mask), which makes no difference where one block is recovered. In the six rows and in the"
+          " picture it is the faster of the two.", __VERSION__);
     point("memcpy: it copies the data blocks, and so stores d blocks where parity stores two.");
 }
 

@@ -14,7 +14,7 @@ enum { DATA_MIB = 16, SMALL_MIB = 1, SLOTS = 256, PLACES = 4096 };
 
 /* A stripe's works, those of a shelf over its whole array, two rebuilds that only the comparison of the
    layouts needs, those that change a list, those that recover from stale stripes, the test of the list alone, and
-   parity of a stripe without Q and a data block of it recovered. */
+   parity of a stripe without Q. */
 enum work {
     PARITY, ONE_BLOCK, TWO_BLOCKS, ALL_STRIPES,
     WRITE, READ, FETCH, FETCH_ONE, FETCH_TWO, REBUILD_ONE, REBUILD_TWO, REBUILD_PARITY, FULL_RESYNC,
@@ -22,7 +22,7 @@ enum work {
     LOG_AGAIN, LOG_FIRST, LOG_MIDDLE, LOG_LAST, RESYNC, DROP,
     STALE_REBUILD, STALE_FETCH, STALE_BLOCK,
     TEST,
-    P_ALONE, ONE_WITHOUT_Q,
+    P_ALONE,
     WORKS,
     SHELF_WORKS = WRITE, LIST_WORKS = LOG_AGAIN, STALE_WORKS = STALE_REBUILD /* the first of a kind */
 };

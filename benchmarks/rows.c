@@ -53,13 +53,6 @@ static void step_row(size_t b, uint8_t *restrict p, uint8_t *restrict q, const u
     }
 }
 
-/* One data block into Q alone. A call of its own: inlined, gcc 12 joins the rows of blocks and makes no vector code. */
-__attribute__((noinline)) static void weigh_row(size_t b, uint8_t *restrict q, const uint8_t *restrict r)
-{
-    for (size_t j = 0; j < b; j++)
-        q[j] = twice(q[j]) ^ r[j];
-}
-
 /* q[j] = 2 * q[j], the step of a block of zeros. */
 static void double_row(size_t b, uint8_t *q)
 {
@@ -120,24 +113,13 @@ static void parity_at(uint32_t d, size_t b, uint8_t *const *blocks)
         step_row(b, blocks[d], blocks[d + 1], blocks[i]);
 }
 
-/* Whether Q of such a stripe's data is the stored one. */
-static bool agrees_at(uint32_t d, size_t b, uint8_t *const *blocks)
-{
-    uint8_t q[SHELF_MAX_BLOCK];
-    memcpy(q, blocks[d - 1], b);
-    for (uint32_t i = d - 1; i-- > 0;)
-        weigh_row(b, q, blocks[i]);
-    return memcmp(q, blocks[d + 1], b) == 0;
-}
-
-/* Data block x of such a stripe from P and the other data blocks, tested by Q. */
-static bool recover_tested_at(uint32_t d, size_t b, uint32_t x, uint8_t *const *blocks)
+/* Data block x of such a stripe from P and the other data blocks. */
+static void recover_at(uint32_t d, size_t b, uint32_t x, uint8_t *const *blocks)
 {
     memcpy(blocks[x], blocks[d], b);
     for (uint32_t i = 0; i < d; i++)
         if (i != x)
             add_row(b, blocks[x], blocks[i]);
-    return agrees_at(d, b, blocks);
 }
 
 /* Data blocks x and y of such a stripe, x below y, from P, Q and the others; the product tables are filled in
@@ -158,28 +140,13 @@ static void recover_two_at(uint32_t d, size_t b, uint32_t x, uint32_t y, uint8_t
                blocks[d + 1]);
 }
 
-/* Where the blocks of a stripe are that stand one after another. A call of its own: inlined, gcc 12 warns of unset
-   blocks. */
-__attribute__((noinline)) static void find_blocks(uint32_t d, size_t b, uint8_t *stripe, uint8_t **blocks)
-{
-    for (uint32_t i = 0; i < d + 2; i++)
-        blocks[i] = stripe + i * b;
-}
-
-/* The same two recoveries of such a stripe. */
-static bool recover_tested(uint32_t d, size_t b, uint32_t x, uint8_t *stripe)
-{
-    uint8_t *blocks[MOST_DATA + 2];
-    find_blocks(d, b, stripe, blocks);
-    return recover_tested_at(d, b, x, blocks);
-}
-
+/* The same of a stripe whose blocks stand one after another. */
 static void recover_two(uint32_t d, size_t b, uint32_t x, uint32_t y, uint8_t *stripe)
 {
     uint8_t *blocks[MOST_DATA + 2];
-    find_blocks(d, b, stripe, blocks);
+    for (uint32_t i = 0; i < d + 2; i++)
+        blocks[i] = stripe + i * b;
     recover_two_at(d, b, x, y, blocks);
 }
 
-const struct rows ROWS = {init,        parity,    sum,               recover_one,   recover_tested,
-                          recover_two, parity_at, recover_tested_at, recover_two_at};
+const struct rows ROWS = {init, parity, sum, recover_one, recover_two, parity_at, recover_at, recover_two_at};

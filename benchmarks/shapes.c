@@ -56,7 +56,8 @@ static void say_layouts(void)
     struct spread listed = medians(LOG_AGAIN, RESYNC, DATA_MIB, ROTATING, OURS);
     say("The rotating layout has these parts of the fixed one's speed. A write of all blocks and full resync over %d MiB: %.2f to"
         " %.2f; the calls with blocks listed: %.2f to %.2f. A rebuild of one member: %.2f to %.2f in cache, and over %d MiB %.2f to"
-        " %.2f, where plain C has %.2f to %.2f. A read of all blocks: %.2f to %.2f in cache, and over %d MiB %.2f to %.2f, where"
+        " %.2f, where plain C has %.2f to %.2f: a stripe's Q is not read, so that each member is read with gaps, which the"
+        " processor's prefetching does not bridge. A read of all blocks: %.2f to %.2f in cache, and over %d MiB %.2f to %.2f, where"
         " plain C has %.2f to %.2f: it passes over P and Q. A rebuild of two members over %d MiB: %.2f to %.2f; it fills its table of"
         " products anew where the pair of lost data indices changes.",
         DATA_MIB, made.low, made.high, listed.low, listed.high, small_one.low, small_one.high, DATA_MIB, one.low, one.high,
@@ -103,8 +104,8 @@ void print_single(void)
     static const enum work works[] = {FULL_RESYNC, WRITE, REBUILD_ONE};
     printf("## One parity beside two\n\n");
     say("A shelf with one parity beside one with two, fixed layout, nothing listed, in GB/s of data blocks. Both work on the same"
-        " bytes: the array with one parity is that with two without its last member, Q. Data disk 2 is rebuilt, from P in either, and"
-        " with two tested by Q. P of a single stripe, and a block recovered without Q, are in the table of stripes.");
+        " bytes: the array with one parity is that with two without its last member, Q. Data disk 2 is rebuilt, from P in either."
+        " P of a single stripe is in the table of stripes.");
     printf("| work | MiB | d | B | one parity | two parities | one / two |\n|---|---|---|---|---|---|---|\n");
     for (unsigned k = 0; k < sizeof works / sizeof works[0]; k++) {
         print_single_rows(works[k], DATA_MIB);

@@ -91,12 +91,9 @@ void print_stripes(void)
     printf("## A stripe and an array\n\n");
     say("One stripe is in cache, the same for all variants; in recovery the missing blocks are not cleared between calls. The array"
         " has %d MiB of data blocks, kept by member, the same for all variants; P and Q of all stripes are made in place.", DATA_MIB);
-    say("A data block that is missing alone is worked back from P and, with two parities, tested by Q. The C rows do the one after the"
-        " other%s", has_isal() ? "; ec_encode_data makes the block and the Q that is due, which is then compared; pq_gen makes the block"
-        " and a weighted sum of the same blocks, and compares nothing." : ".");
     unsigned n = print_head(PARITY, TWO_BLOCKS, 0, columns);
     print_speeds(PARITY, TWO_BLOCKS, 0, n, columns);
-    print_speeds(P_ALONE, ONE_WITHOUT_Q, 0, n, columns);
+    print_speeds(P_ALONE, P_ALONE, 0, n, columns);
     print_speeds(ALL_STRIPES, ALL_STRIPES, DATA_MIB, n, columns);
     printf("\n");
 }
@@ -117,8 +114,7 @@ void print_shelf(void)
     say("Over an array of %d MiB of data blocks, fixed layout, nothing listed. The peers do the same work on the same array, stripe by"
         " stripe: for a write, memcpy of each block and then parity; for a read, plain (`shelf_read`) or recovering (`shelf_fetch`),"
         " memcpy by block; for the rest, what is named. Plain C is memcpy and the C rows by mask. A fetch of lost blocks is a call"
-        " for each block of one disk. With one data disk out each block is tested by Q, by plain C too%s", DATA_MIB,
-        has_isal() ? "; pq_gen makes the block and a weighted sum, and compares nothing." : ".");
+        " for each block of one disk.", DATA_MIB);
     unsigned n = print_head(SHELF_WORKS, FULL_RESYNC, DATA_MIB, columns);
     print_speeds(SHELF_WORKS, FULL_RESYNC, DATA_MIB, n, columns);
     printf("\n");

@@ -29,8 +29,8 @@ static void ours_all(const struct job *job)
         fail(job, variant_names[OURS], "parity of all stripes was refused");
 }
 
-/* The calls of a set of C rows: parity of one stripe with Q and without, recovery of one data block without Q and
-   tested by Q, and of two, and parity of all stripes. */
+/* The calls of a set of C rows: parity of one stripe with Q and without, recovery of one data block and of
+   two, and parity of all stripes. */
 #define CALLS_OF(set)                                                                              \
     static void set##_parity(const struct job *job)                                                \
     {                                                                                              \
@@ -43,11 +43,6 @@ static void ours_all(const struct job *job)
     static void set##_one(const struct job *job)                                                   \
     {                                                                                              \
         set##_rows.recover_one(job->d, job->b, job->x, job->bytes);                                \
-    }                                                                                              \
-    static void set##_tested(const struct job *job)                                                \
-    {                                                                                              \
-        if (!set##_rows.recover_tested(job->d, job->b, job->x, job->bytes))                        \
-            fail(job, variant_names[C_ROWS], "Q disagrees");                                       \
     }                                                                                              \
     static void set##_two(const struct job *job)                                                   \
     {                                                                                              \
@@ -65,17 +60,15 @@ CALLS_OF(mask)
 
 /* What a set of ISA-L's functions or of C rows does. */
 #define SUMS_OF(set)                                                                               \
-    {[PARITY] = set##_pq, [ONE_BLOCK] = set##_sums, [ALL_STRIPES] = set##_pq_all,                  \
-     [WRITE] = set##_write, [FETCH_ONE] = set##_sums_all, [REBUILD_ONE] = set##_sums_all,          \
-     [REBUILD_PARITY] = set##_pq_all, [FULL_RESYNC] = set##_pq_all, [P_ALONE] = set##_xor,         \
-     [ONE_WITHOUT_Q] = set##_xor}
+    {[PARITY] = set##_pq, [ONE_BLOCK] = set##_xor, [ALL_STRIPES] = set##_pq_all,                   \
+     [WRITE] = set##_write, [FETCH_ONE] = set##_xor_all, [REBUILD_ONE] = set##_xor_all,            \
+     [REBUILD_PARITY] = set##_pq_all, [FULL_RESYNC] = set##_pq_all, [P_ALONE] = set##_xor}
 #define PRODUCTS_OF(set)                                                                           \
-    {[PARITY] = set##_encode, [ONE_BLOCK] = set##_encode_tested, [TWO_BLOCKS] = set##_encode,      \
-     [FETCH_TWO] = set##_encode_all, [REBUILD_TWO] = set##_encode_all, [P_ALONE] = set##_encode,   \
-     [ONE_WITHOUT_Q] = set##_encode}
+    {[PARITY] = set##_encode, [ONE_BLOCK] = set##_encode, [TWO_BLOCKS] = set##_encode,             \
+     [FETCH_TWO] = set##_encode_all, [REBUILD_TWO] = set##_encode_all, [P_ALONE] = set##_encode}
 #define ROWS_OF(set)                                                                               \
-    {[PARITY] = set##_parity, [ONE_BLOCK] = set##_tested, [TWO_BLOCKS] = set##_two,                \
-     [ALL_STRIPES] = set##_all, [P_ALONE] = set##_sum, [ONE_WITHOUT_Q] = set##_one}
+    {[PARITY] = set##_parity, [ONE_BLOCK] = set##_one, [TWO_BLOCKS] = set##_two, [ALL_STRIPES] = set##_all,   \
+     [P_ALONE] = set##_sum}
 
 const struct way ways[VARIANTS] = {
     [OURS] = {SHELF_FIXED, false,
@@ -87,7 +80,7 @@ const struct way ways[VARIANTS] = {
       [LOG_AGAIN] = ours_log, [LOG_FIRST] = ours_log, [LOG_MIDDLE] = ours_log, [LOG_LAST] = ours_log,
       [RESYNC] = ours_resync, [DROP] = ours_log, [STALE_REBUILD] = ours_rebuild, [STALE_FETCH] = ours_fetch,
       [STALE_BLOCK] = ours_fetch_one, [TEST] = ours_test,
-      [P_ALONE] = ours_parity, [ONE_WITHOUT_Q] = ours_recover}},
+      [P_ALONE] = ours_parity}},
 #ifdef WITH_ISAL
     [ISAL_SUMS] = {SHELF_FIXED, false, SUMS_OF(isal)},
     [SSE_SUMS] = {SHELF_FIXED, false, SUMS_OF(isal_sse)},
@@ -98,7 +91,7 @@ const struct way ways[VARIANTS] = {
     [MASK_ROWS] = {SHELF_FIXED, false, ROWS_OF(mask)},
     [MEMCPY] = {SHELF_FIXED, false,
      {[PARITY] = copy_data, [ONE_BLOCK] = copy_data, [TWO_BLOCKS] = copy_data, [ALL_STRIPES] = copy_data,
-      [READ] = copy_blocks, [FETCH] = copy_blocks, [P_ALONE] = copy_data, [ONE_WITHOUT_Q] = copy_data}},
+      [READ] = copy_blocks, [FETCH] = copy_blocks, [P_ALONE] = copy_data}},
     [SINGLE] = {SHELF_FIXED, true,
      {[WRITE] = ours_write, [REBUILD_ONE] = ours_rebuild, [FULL_RESYNC] = ours_full_resync}},
     [C_FIXED] = {SHELF_FIXED, false,

@@ -25,7 +25,7 @@ extern "C" {
 #endif
 
 /* The version, which rises with each change that a caller can see. */
-#define SHELF_VERSION 9
+#define SHELF_VERSION 8
 
 /* The ranges of the measures. */
 #define SHELF_MIN_DATA 2
@@ -81,8 +81,6 @@ extern "C" {
 #define SHELF_WITHHELD 14       /* the log has failed, and a block that is asked for (shelf_fetch), or any data block
                                  * (shelf_rebuild), is on a failed member in a stale stripe; never with one parity */
 #define SHELF_BLOCK_FAILED 16   /* a block that is asked for (shelf_read) is on a failed member */
-#define SHELF_DISPUTED 17       /* P and Q disagree about a block that is worked back, one that is asked for
-                                 * (shelf_fetch) or any data block (shelf_rebuild); never with one parity */
 #define SHELF_OK 0
 
 /* The measures of a shelf: 64 bytes. */
@@ -214,12 +212,9 @@ SHELF_ANSWER struct shelf_answer shelf_read(struct shelf_record shelf, size_t ad
 /* Reads blocks from sound and failed members: the recovering read (degraded read). A block on a sound member is taken
  * from there, as shelf_read takes it. A block on a failed one is taken from its Cur, else from its Ori, else it is
  * worked back by parity from the originals of its stripe: a listed block's Ori, an unlisted one's bytes if its member
- * is sound, and P and Q as far as theirs are. If there are two parities and no other original of the stripe, P and Q
- * included, is missing, it comes from P and is tested by Q.
+ * is sound, and P and Q as far as theirs are.
  *
- * Answers 0, 1, 2, 3, 4, 5, 14 or 17. Stores the blocks in data, and nothing else. The record handed back is the given
- * one. With 17, P and Q disagree about such a block: an original, P or Q of its stripe is silently damaged, and nothing
- * tells which. Fetched one by one, the disputed blocks get 17 and all others are given.
+ * Answers 0, 1, 2, 3, 4, 5 or 14. Stores the blocks in data, and nothing else. The record handed back is the given one.
  */
 SHELF_ANSWER struct shelf_answer shelf_fetch(struct shelf_record shelf, size_t address, size_t count, uint8_t *data,
                                              size_t data_len, const uint8_t *array, size_t array_len,
@@ -237,11 +232,10 @@ SHELF_ANSWER struct shelf_resynced shelf_resync(struct shelf_record shelf, uint8
 
 /* Fills all failed array members.
  *
- * Answers 0, 1, 2, 3, 12, 14 or 17. Stores every data block on a failed member, which is what shelf_fetch would give; P
- * and Q of each stripe that had a parity on a failed member; and the list without the entries of these stripes. The
- * record handed back has no flag of an array member set; the log's flag is as it was, and listed counts the blocks left
+ * Answers 0, 1, 2, 3, 12 or 14. Stores every data block on a failed member, which is what shelf_fetch would give; P and
+ * Q of each stripe that had a parity on a failed member; and the list without the entries of these stripes. The record
+ * handed back has no flag of an array member set; the log's flag is as it was, and listed counts the blocks left
  * listed. If none is, next is 0, and mode 2 becomes 0; else next and the mode remain. Mode 1 remains in either case.
- * With 17, P and Q disagree about one of these data blocks, and a fetch of it gets 17 too.
  */
 SHELF_ANSWER struct shelf_answer shelf_rebuild(struct shelf_record shelf, uint8_t *array, size_t array_len,
                                                const uint8_t *log, size_t log_len, uint8_t *list, size_t list_len);
@@ -340,8 +334,7 @@ SHELF_ANSWER static inline bool shelf_load(const uint8_t bytes[SHELF_RECORD_BYTE
     X(SHELF_NOT_FAILED, "nothing has failed that this call mends")                \
     X(SHELF_LISTED, "blocks are listed")                                          \
     X(SHELF_WITHHELD, "a block is lost with the log")                             \
-    X(SHELF_BLOCK_FAILED, "a block is on a failed member")                        \
-    X(SHELF_DISPUTED, "P and Q disagree about a block")
+    X(SHELF_BLOCK_FAILED, "a block is on a failed member")
 
 /* The name of a number, as "SHELF_BAD_LIST"; of one that no call answers, "". */
 static inline const char *shelf_name(size_t code)

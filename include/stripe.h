@@ -15,9 +15,9 @@
  * the power i times byte j of block i, in the field of 256 elements with polynomial 0x11D, where a sum is an exclusive
  * or. This is the parity of H. P. Anvin, "The mathematics of RAID-6". P is the same with either count.
  *
- * Both calls take any arguments and any length. They answer 0, or they refuse with the first of 1, 2, 6, 11 and 17 that
- * applies; a refusal stores nothing. There is no state and no allocation. Calls may run at the same time, in any number
- * of threads, as long as their buffers do not overlap.
+ * Both calls take any arguments and any length. They answer 0, or they refuse with the first of 1, 2, 6 and 11 that
+ * applies; a refusal stores nothing. There is no state and no allocation. Calls may
+ * run at the same time, in any number of threads, as long as their buffers do not overlap.
  */
 #ifndef KUMIROVE_STRIPE_H
 #define KUMIROVE_STRIPE_H
@@ -30,7 +30,7 @@ extern "C" {
 #endif
 
 /* The version, which rises with each change that a caller can see; docs/MANUAL.md of the source lists them. */
-#define STRIPE_VERSION 9
+#define STRIPE_VERSION 8
 
 /* The ranges of d, parities and b. */
 #define STRIPE_MIN_DATA 2
@@ -45,7 +45,6 @@ extern "C" {
 #define STRIPE_BAD_LENGTH 2   /* len is not (d + parities) * b */
 #define STRIPE_BAD_MEMBER 6   /* x or y is not below d + parities (stripe_recover only) */
 #define STRIPE_TWO_MISSING 11 /* x and y differ, and there is one parity (stripe_recover only) */
-#define STRIPE_DISPUTED 17    /* P and Q disagree about the one missing data block (stripe_recover only) */
 #define STRIPE_OK 0
 
 /* A number that is not looked at is warned of. */
@@ -78,20 +77,17 @@ STRIPE_ANSWER uint32_t stripe_make_parity(uint32_t d, uint32_t parities, uint32_
  *   stripe    the buffer, not NULL; the missing members may hold anything
  *   len       how many bytes the buffer has, (d + parities) * b
  *
- * Answers 0, 1, 2, 6, 11 or 17. With 0, the missing members are stored and all others are as they were; else nothing is
+ * Answers 0, 1, 2, 6 or 11. With 0, the missing members are stored and all others are as they were; else nothing is
  * stored. What is stored, by what is missing:
  *
- *   a data block            it, from P; with two parities it is tested by Q
+ *   a data block            it, from P
  *   a data block and Q      the data from P, then Q from the data
  *   a data block and P      the data from Q, then P from the data
  *   two data blocks         both, from P and Q
  *   P, Q or both            each from the data
  *
- * With 17, P and Q disagree about a data block that is missing alone: the data, with the block as P gives it, has
- * another Q than the stored one, so that a member of the stripe is silently damaged, and nothing tells which. In all
- * other cases the members that are there are taken as they are: with one parity, or where two members or a parity are
- * missing, there is nothing to test them by. If they are those of a stripe that stripe_make_parity made, the buffer is
- * that stripe again.
+ * The members that are there are taken as they are: the call does not test whether they agree with each other. If they
+ * are those of a stripe that stripe_make_parity made, the buffer is that stripe again.
  */
 STRIPE_ANSWER uint32_t stripe_recover(uint32_t d, uint32_t parities, uint32_t b, uint32_t x, uint32_t y,
                                       uint8_t *stripe, size_t len);
@@ -106,13 +102,12 @@ static inline size_t stripe_len(uint32_t d, uint32_t parities, uint32_t b)
 }
 
 /* The numbers with a short text each. */
-#define STRIPE_EACH_NUMBER(X)                                         \
-    X(STRIPE_OK, "accepted")                                          \
-    X(STRIPE_BAD_MEASURES, "d, parities or b is out of its range")    \
-    X(STRIPE_BAD_LENGTH, "the buffer has not the stripe's length")    \
-    X(STRIPE_BAD_MEMBER, "no such member")                            \
-    X(STRIPE_TWO_MISSING, "two members are missing, with one parity") \
-    X(STRIPE_DISPUTED, "P and Q disagree about the missing block")
+#define STRIPE_EACH_NUMBER(X)                                        \
+    X(STRIPE_OK, "accepted")                                         \
+    X(STRIPE_BAD_MEASURES, "d, parities or b is out of its range")   \
+    X(STRIPE_BAD_LENGTH, "the buffer has not the stripe's length")   \
+    X(STRIPE_BAD_MEMBER, "no such member")                           \
+    X(STRIPE_TWO_MISSING, "two members are missing, with one parity")
 
 /* The name of a number, as "STRIPE_BAD_MEMBER"; of one that no call answers, "". */
 static inline const char *stripe_name(uint32_t code)

@@ -20,7 +20,7 @@ fn main() {
     println!("cargo:rustc-link-search=native={}", folder.display());
     for name in ["stripe", "probe", "shelf"] {
         let archive = folder.join(format!("lib{name}.a"));
-        assert!(archive.is_file(), "{} is missing: make it by rt staticlib {name}", archive.display());
+        assert!(archive.is_file(), "{} is missing: make it by tools/staticlib {name}", archive.display());
         println!("cargo:rerun-if-changed={}", archive.display());
         println!("cargo:rustc-link-lib=static={name}");
     }

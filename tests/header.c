@@ -59,27 +59,7 @@ static int stripe_without_q(void)
     return 0;
 }
 
-/* Recovers a block of a sound stripe that is missing alone, and of one whose Q is flipped, which is refused and stays as
- * it is; a block that is missing beside Q is not tested. */
-static int stripe_tested(void)
-{
-    const recover_call recover = stripe_recover;
-    const uint8_t sound[5] = {1, 2, 3, 0, 9}, flipped[5] = {1, 77, 3, 0, 8};
-    uint8_t stripe[5] = {1, 77, 3, 0, 9};
-
-    if (recover(3, 2, 1, 1, 1, stripe, sizeof stripe) != STRIPE_OK || memcmp(stripe, sound, sizeof sound) != 0)
-        return 171;
-    memcpy(stripe, flipped, sizeof flipped);
-    if (recover(3, 2, 1, 1, 1, stripe, sizeof stripe) != STRIPE_DISPUTED ||
-        memcmp(stripe, flipped, sizeof flipped) != 0)
-        return 172;
-    if (recover(3, 2, 1, 1, 4, stripe, sizeof stripe) != STRIPE_OK || memcmp(stripe, sound, sizeof sound) != 0)
-        return 173;
-    return stripe_without_q();
-}
-
-/* Makes a stripe, recovers two blocks of it and has each number answered once; then goes on with one block, and with a
- * stripe without Q. */
+/* Makes a stripe, recovers two blocks of it and has each number answered once; then goes on with one without Q. */
 static int stripe_calls(void)
 {
     const make_call make = stripe_make_parity;
@@ -98,7 +78,7 @@ static int stripe_calls(void)
         return 4;
     if (recover(3, 2, STRIPE_MIN_BLOCK, 0, 5, stripe, sizeof stripe) != STRIPE_BAD_MEMBER)
         return 5;
-    return stripe_tested();
+    return stripe_without_q();
 }
 
 /* Compares the compiler's layout of the record and the answers with the library's: numbers of eight bytes in the order
@@ -417,30 +397,6 @@ static int log_not_returned(struct shelf_record shelf)
     return each_returned(shelf);
 }
 
-/* On that shelf with block 1 logged as 7, disks 0 and 1 failed and overwritten: the last byte of P is flipped, so that
- * block 0 is disputed and block 1, which the log has, is not. A rebuild is too. No byte is stored. P is put right. */
-static int block_disputed(struct shelf_record shelf)
-{
-    uint8_t two[10], kept[sizeof array];
-    struct shelf_answer answer;
-
-    memset(two, 9, sizeof two);
-    array[3 * 10 + 4] ^= 1;
-    memcpy(kept, array, sizeof array);
-    answer = read_blocks(shelf_fetch, shelf, 0, 2, two, sizeof two);
-    if (answer.code != SHELF_DISPUTED || !same(answer.shelf, shelf) || !all(two, sizeof two, 9))
-        return 174;
-    if (read_blocks(shelf_fetch, shelf, 0, 1, two, 5).code != SHELF_DISPUTED || !all(two, sizeof two, 9) ||
-        read_blocks(shelf_fetch, shelf, 1, 2, two, sizeof two).code != SHELF_OK || !all(two, 5, 7) ||
-        !all(two + 5, 5, 0))
-        return 175;
-    answer = mended(shelf_rebuild, shelf);
-    if (answer.code != SHELF_DISPUTED || !same(answer.shelf, shelf) || memcmp(array, kept, sizeof array) != 0)
-        return 176;
-    array[3 * 10 + 4] ^= 1;
-    return 0;
-}
-
 /* On a started shelf: block 1 is logged as 7, disks 0 and 1 fail and are overwritten, read and rebuilt; then the log
  * and disk 0 fail, and block 0 is withheld. */
 static int blocks_logged(struct shelf_record shelf)
@@ -461,8 +417,6 @@ static int blocks_logged(struct shelf_record shelf)
     fault = both_reads(answer.shelf, SHELF_OK);
     if (fault == 0)
         fault = first_returned(answer.shelf);
-    if (fault == 0)
-        fault = block_disputed(answer.shelf);
     if (fault != 0)
         return fault;
     if (write_blocks(answer.shelf, 1, 1, sevens, sizeof sevens).code != SHELF_ARRAY_FAILED)
@@ -781,10 +735,10 @@ static int numbers_named(void)
     size_t i, other;
 
     for (i = 0; i < 100; i++) {
-        if (!is_named("SHELF_", shelf_name(i), shelf_text(i), i < 18 && i != 15))
+        if (!is_named("SHELF_", shelf_name(i), shelf_text(i), i < 17 && i != 15))
             return 131;
         if (!is_named("STRIPE_", stripe_name((uint32_t)i), stripe_text((uint32_t)i),
-                      i < 3 || i == STRIPE_BAD_MEMBER || i == STRIPE_TWO_MISSING || i == STRIPE_DISPUTED))
+                      i < 3 || i == STRIPE_BAD_MEMBER || i == STRIPE_TWO_MISSING))
             return 132;
         for (other = 0; other < i && shelf_name(i)[0] != 0; other++)
             if (strcmp(shelf_name(i), shelf_name(other)) == 0 || strcmp(shelf_text(i), shelf_text(other)) == 0)

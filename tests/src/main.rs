@@ -6,7 +6,6 @@
 mod arrays;
 mod bench;
 mod calls;
-mod disputed;
 mod examples;
 mod field;
 mod model;
@@ -30,14 +29,13 @@ pub type Outcome = Result<String, String>;
 type Group = fn(u64) -> Outcome;
 
 /// The groups in the order in which they run.
-const GROUPS: [(&str, Group); 28] = [
+const GROUPS: [(&str, Group); 26] = [
     ("field", field::group),
     ("products", products::group),
     ("examples", examples::group),
     ("stripes", stripes::group),
     ("recovery", recovery::group),
     ("refusals", refusals::group),
-    ("disputed stripes", disputed::group),
     ("arrays", arrays::group),
     ("printed session", shelf::cases::printed::group),
     ("marked examples", shelf::cases::marked::group),
@@ -47,7 +45,6 @@ const GROUPS: [(&str, Group); 28] = [
     ("rebuilds in turn", shelf::cases::rebuilds::group),
     ("one parity", shelf::cases::single::group),
     ("put back", shelf::cases::returned::group),
-    ("disputed blocks", shelf::cases::disputed::group),
     ("sessions", shelf::cases::sessions::group),
     ("tiny shelves", shelf::cases::tiny::group),
     ("random shelves", shelf::cases::random::group),

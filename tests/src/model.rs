@@ -15,7 +15,7 @@ pub fn make_code(d: u32, parities: u32, b: u32, len: usize) -> u32 {
     make_all_code(d, parities, 1, b, len)
 }
 
-/// The number that stripe_recover answers, whatever the stripe holds.
+/// The number that stripe_recover answers.
 pub fn recover_code(d: u32, parities: u32, b: u32, x: u32, y: u32, len: usize) -> u32 {
     match make_code(d, parities, b, len) {
         0 if u64::from(x.max(y)) >= u64::from(d) + u64::from(parities) => 6,
@@ -128,17 +128,6 @@ pub fn recovered(d: usize, parities: usize, b: usize, x: usize, y: usize, stripe
     }
 }
 
-/// Whether the two parities disagree about the one missing data block x of a stripe, where y is no other member: P
-/// gives x, and the data so completed has another Q in some column. Where there is one parity, where x is a parity and
-/// where y is missing too, there is none left to test x by.
-pub fn disputed(d: usize, parities: usize, b: usize, x: usize, y: usize, stripe: &[u8]) -> bool {
-    if parities == 1 || x >= d || y != x {
-        return false;
-    }
-    let whole = recovered(d, parities, b, x, x, stripe);
-    made(d, parities, b, &whole) != whole
-}
-
 /// The array of s stripes, kept by member, with the parity of each of them made. Byte k of every member is a column,
 /// just as in a stripe whose blocks are whole members.
 pub fn made_all(d: usize, parities: usize, s: usize, b: usize, array: &[u8]) -> Vec<u8> {
@@ -162,9 +151,9 @@ pub fn outcome(call: Call, bytes: &[u8], len: usize) -> (u32, Vec<u8>) {
         return (code, bytes.to_vec());
     }
     let [d, parities, s, b] = call.measures().map(|measure| measure as usize);
-    match call {
-        Call::Recover { x, y, .. } if disputed(d, parities, b, x as usize, y as usize, bytes) => (17, bytes.to_vec()),
-        Call::Recover { x, y, .. } => (0, recovered(d, parities, b, x as usize, y as usize, bytes)),
-        _ => (0, made_all(d, parities, s, b, bytes)),
-    }
+    let after = match call {
+        Call::Recover { x, y, .. } => recovered(d, parities, b, x as usize, y as usize, bytes),
+        _ => made_all(d, parities, s, b, bytes),
+    };
+    (0, after)
 }

@@ -12,8 +12,8 @@ use crate::Outcome;
 const ENDINGS: [&str; 6] = ["md", "rt", "antt", "rs", "svg", "edit"];
 const BEHIND_A_FOLDER: [&str; 4] = ["c", "h", "txt", "toml"];
 
-/// The page that may name files that are gone: it tells what changed.
-const OF_CHANGES: &str = "docs/CHANGES.md";
+/// The pages that may name files that are gone: they tell what changed.
+const OF_CHANGES: [&str; 2] = ["docs/CHANGES.md", "docs/PORT.md"];
 
 /// The page of the tests, and the folder below it of which it names the files together.
 const OF_TESTS: &str = "tests/README.md";
@@ -211,7 +211,7 @@ pub fn group(_seed: u64) -> Outcome {
     for name in &names {
         let page = Page::read(name)?;
         links += all_linked(&page)?;
-        paths += if *name == OF_CHANGES { 0 } else { tree.all_named(&page)? };
+        paths += if OF_CHANGES.contains(&name.as_str()) { 0 } else { tree.all_named(&page)? };
     }
     Ok(format!(
         "{links} links and {paths} paths of {} pages lead to files; {OF_TESTS} names all {} files of the tests",

@@ -1,25 +1,22 @@
-//! Random stripes of every d, with one parity and with two, and of blocks from 1 to 4,096 bytes: parity made, every
-//! pair of members recovered, or refused where there is one parity, and stripes whose parity is wrong treated by the
-//! rule: a data block that is missing alone is then refused, where there are two parities and they disagree about it.
+//! Random stripes of every d, with one parity and with two, and of blocks from 1 to 4,096 bytes: parity made, every pair
+//! of members recovered, or refused where there is one parity, and stripes whose parity is wrong treated by the rule.
 
 use crate::calls::Call;
 use crate::model;
 use crate::published::Stripe;
 use crate::random::Random;
-use crate::refusals::as_model;
 use crate::stripes::{can_recover, pairs, recovery};
 use crate::Outcome;
 
 /// The block sizes: the least, the greatest, and those around the powers of 2 where code that goes by pieces changes.
 const SIZES: [usize; 11] = [1, 2, 15, 16, 17, 63, 64, 65, 127, 512, 4096];
 
-/// How many stripes were made, how many pairs of members recovered in sound ones and treated in as many with wrong
-/// parity, how many of these were refused, and how many pairs were.
+/// How many stripes were made, how many pairs of members recovered in sound ones and in as many with wrong parity, and
+/// how many pairs were refused.
 #[derive(Default)]
 struct Counts {
     stripes: usize,
     recoveries: usize,
-    disputes: usize,
     refusals: usize,
 }
 
@@ -31,15 +28,12 @@ fn made(d: usize, parities: usize, b: usize, random: &mut Random) -> Result<Stri
     Ok(Stripe { d, parities, b, bytes })
 }
 
-/// Fails unless the library treats a stripe of these measures and of random bytes, parity too, as the rule says. Hands
-/// back whether it is refused.
-fn wrong_parity(stripe: &Stripe, x: usize, y: usize, random: &mut Random) -> Result<bool, String> {
+/// Fails unless the library treats a stripe of these measures and of random bytes, parity too, as the rule says.
+fn wrong_parity(stripe: &Stripe, x: usize, y: usize, random: &mut Random) -> Result<(), String> {
     let Stripe { d, parities, b, .. } = *stripe;
     let before = random.bytes((d + parities) * b);
-    match as_model(Call::recover(d, parities, b, x, y), &before, before.len()) {
-        Ok(code) => Ok(code == 17),
-        Err(fault) => Err(format!("wrong parity: {fault}")),
-    }
+    let after = model::recovered(d, parities, b, x, y, &before);
+    Call::recover(d, parities, b, x, y).expect(&before, 0, &after).map_err(|fault| format!("wrong parity: {fault}"))
 }
 
 /// Goes through every ordered pair of a stripe's members.
@@ -47,7 +41,7 @@ fn recovered(stripe: &Stripe, counts: &mut Counts, random: &mut Random) -> Resul
     for (x, y) in pairs(stripe.d + stripe.parities) {
         recovery(stripe, x, y, random)?;
         if can_recover(stripe.parities, x, y) {
-            counts.disputes += usize::from(wrong_parity(stripe, x, y, random)?);
+            wrong_parity(stripe, x, y, random)?;
             counts.recoveries += 1;
         } else {
             counts.refusals += 1;
@@ -70,7 +64,7 @@ pub fn group(seed: u64) -> Outcome {
             }
         }
     }
-    let Counts { stripes, recoveries, disputes, refusals } = counts;
-    let sound = format!("{recoveries} recoveries of sound stripes and as many with wrong parity, {disputes} with 17");
+    let Counts { stripes, recoveries, refusals } = counts;
+    let sound = format!("{recoveries} recoveries of sound stripes and as many with wrong parity");
     Ok(format!("{stripes} stripes made, {sound}, {refusals} pairs with 11; seed {seed}"))
 }

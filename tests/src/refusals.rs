@@ -1,6 +1,5 @@
-//! The numbers 1, 2, 6 and 11 of the calls on a stripe, with one parity and with two: when each is given, in which
-//! order, and that a refused call stores nothing. The stripes hold random bytes, so that 17 would apply after each of
-//! them.
+//! The numbers 1, 2, 6 and 11 of the calls on a stripe, with one parity and with two: when each is given, in which order,
+//! and that a refused call stores nothing.
 
 use crate::calls::Call;
 use crate::model;
@@ -210,13 +209,10 @@ pub fn as_model(call: Call, bytes: &[u8], len: usize) -> Result<u32, String> {
     Ok(code)
 }
 
-/// How often each number was answered.
-type Answers = [usize; 18];
-
-/// Goes through all combinations of the values above, with all pairs of members where they are looked at; hands back
-/// how often each number was answered.
-fn crossed(bytes: &[u8]) -> Result<Answers, String> {
-    let (mut answers, mut turn) = (Answers::default(), 0);
+/// Goes through all combinations of the values above, with all pairs of members where they are looked at; hands back how
+/// often each of 0 to 11 was answered.
+fn crossed(bytes: &[u8]) -> Result<[usize; 12], String> {
+    let (mut answers, mut turn) = ([0; 12], 0);
     let mut count = |code: u32| answers[code as usize] += 1;
     let widths = SOME_D.iter().flat_map(|&d| SOME_PARITIES.map(|parities| (d, parities)));
     for (d, parities, b) in widths.flat_map(|(d, parities)| SOME_B.map(|b| (d, parities, b))) {
@@ -250,9 +246,9 @@ pub fn some_parities(random: &mut Random) -> u32 {
 }
 
 /// Makes so many calls of each kind with random numbers and lengths, among them the length of the other count; fails
-/// unless each does as the model does. Hands back how often a recovery got each number.
-fn at_random(count: usize, bytes: &[u8], random: &mut Random) -> Result<Answers, String> {
-    let mut answers = Answers::default();
+/// unless each does as the model does. Hands back how often a recovery got each of 0 to 11.
+fn at_random(count: usize, bytes: &[u8], random: &mut Random) -> Result<[usize; 12], String> {
+    let mut answers = [0; 12];
     for _ in 0..count {
         let (d, parities, b) = (near(16, random), some_parities(random), near(90, random));
         let len = match random.below(6) {
@@ -269,9 +265,9 @@ fn at_random(count: usize, bytes: &[u8], random: &mut Random) -> Result<Answers,
 }
 
 /// What a row of answers shows, by the number.
-fn shown(answers: Answers) -> String {
-    let with: Vec<String> = [1, 2, 6, 11, 17].iter().map(|&code| format!("{} with {code}", answers[code])).collect();
-    format!("{} accepted, {}", answers[0], with.join(", "))
+fn shown(answers: [usize; 12]) -> String {
+    let [accepted, ones, twos, _, _, _, sixes, _, _, _, _, elevens] = answers;
+    format!("{accepted} accepted, {ones} with 1, {twos} with 2, {sixes} with 6, {elevens} with 11")
 }
 
 /// Goes through the listed, the crossed and the random cases.

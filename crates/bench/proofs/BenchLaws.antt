@@ -15,11 +15,10 @@ use Rattle.lines.specs.declared.requests.Request.{Request}
 use Rattle.lines.proofs.TestLaws.{and_left, and_right}
 use Rattle.shelf.specs.Members.{InRange}
 use Rattle.shelf.specs.Status.{Call, write, bad_address, code_of}
-use Rattle.shelf.specs.Lent.{Lent, flag_at, listed_by, bad_measures, array_length, log_length, list_length, tries_list, input_rows, number_of, answer_of, Answered}
+use Rattle.shelf.specs.Lent.{Lent, flag_at, listed_by, bad_measures, array_length, log_length, list_length, tries_list, input_rows, number_of, Answered}
 use Rattle.shelf.specs.declared.record.Geometry.{Geometry}
 use Rattle.shelf.specs.declared.record.Shelf.{Shelf}
 use Rattle.shelf.proofs.general.TestLaws.{or_true}
-use Rattle.shelf.proofs.numbers.AnswerLaws.{refused_number}
 use Rattle.shelf.proofs.numbers.TableRows.{row_hit, row_other}
 use Rattle.shelf.proofs.numbers.InputLaws.{in_range_lem}
 use Rattle.shelf.proofs.lent.Holding.{answered_geometry}
@@ -117,15 +116,16 @@ answered_alike : (h : Lent) (c c' : Call) (code : ℕ) (h' : Lent) → tries_lis
 unfolding number_of input_rows rows_of
 answered_alike h c c' code h' t t' e e' x =
     let r : Shelf = h.shelf in
-    let rows : ℕ = input_rows r (length h.array) (length h.log) h.list true 4 in
-    let some : rows ≡ 0 → ⊥ =
+    let n : (q : Call) → tries_list q ≡ true → rows_of h q ≡ 4
+    → number_of r (length h.array) (length h.log) h.list q ≡ input_rows r (length h.array) (length h.log) h.list true 4 =
+    λ q u f. ap₂ (λ (b : Bool) (k : ℕ). input_rows r (length h.array) (length h.log) h.list b k) u f in
+    let some : code ≡ 0 → ⊥ = λ z.
     row_other 1 0 _ _ (λ _ k. omega arith) (λ _. row_other 1 0 _ _ (λ _ k. omega arith) (λ _. row_other 2 0 _ _ (λ _ k. omega arith)
-    (λ _. row_other 3 0 _ _ (λ _ k. omega arith) (λ _ (k : ◌≡◌ {A = ℕ} 4 0). omega arith)))) in
-    let n : (q : Call) → tries_list q ≡ true → rows_of h q ≡ 4 → rows ≡ answer_of h q = λ q u f.
-    refused_number h q rows (sym (ap₂ (λ (b : Bool) (k : ℕ). input_rows r (length h.array) (length h.log) h.list b k) u f)) some in
+    (λ _. row_other 3 0 _ _ (λ _ k. omega arith) (λ _ (k : ◌≡◌ {A = ℕ} 4 0). omega arith))))
+    (sym (n c t e) ∙ sym x.number ∙ z) in
     record {
-      number = x.number ∙ sym (n c t e) ∙ n c' t' e';
-      done = λ z. absurd (some (n c t e ∙ sym x.number ∙ z));
+      number = x.number ∙ n c t e ∙ sym (n c' t' e');
+      done = λ z. absurd (some z);
       refused = x.refused;
     }
 

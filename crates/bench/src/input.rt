@@ -3,7 +3,7 @@ ghost use Rattle.std.specs.Prelude.{◌≡◌, ◌≤◌, length};
 ghost use Rattle.bench.specs.Sessions.{Holds};
 
 // What was taken of the input: whether a line ended, how many bytes are kept of it, and the index behind what was taken.
-#[derive(Clone, Copy)]
+#[derive(Drop)]
 pub struct Taken {
     pub ended: bool,
     pub held: usize,

@@ -2,7 +2,7 @@
 -- A byte is an element, and the sum of two elements is their exclusive or, `bit_xor`. Every number here is a byte, but for the n of a power.
 -- No definition names a table.
 -- Assumes nothing.
-use Rattle.std.specs.Prelude.{List, ◌≡◌, ℕ, zero, suc, ◌*◌, ◌/◌, ◌%◌, ◌<◌, get_or}
+use Rattle.std.specs.Prelude.{List, ◌≡◌, ℕ, zero, suc, ◌*◌, ◌/◌, ◌%◌, ◌≤◌, ◌<◌, get_or}
 use Rattle.std.specs.Int.Bits.{bit_xor}
 
 -- 2 times a: the bits move up by one; bit 8, where it comes up, is taken away with 11D: `% 256` drops it, and 29 is the 1D that is left
@@ -32,11 +32,15 @@ raised (suc n) a = times a (raised n a)
 unfoldable pub inverse : ℕ → ℕ
 inverse a = raised 254 a
 
--- ---- what a table holds
+-- ---- what a table holds, for the functions that are lent one
 
--- entry n of t is c times 2 to the power n, for the n of a byte's bits
+-- entry k of t is c times k, for every byte k
 abbrev pub Multiples : ℕ → List ℕ → Type 0
-Multiples c t = (n : ℕ) → n < 8 → get_or t n 0 ≡ times c (pow2 n)
+Multiples c t = (k : ℕ) → k < 256 → get_or t k 0 ≡ times c k
+
+-- from place n on t has what t₀ has
+abbrev pub SameFrom : ℕ → List ℕ → List ℕ → Type 0
+SameFrom n t₀ t = (k : ℕ) → n ≤ k → get_or t k 0 ≡ get_or t₀ k 0
 
 -- entry n of t is 2 to the power n, for n below 256
 abbrev pub Powers : List ℕ → Type 0

@@ -8,8 +8,8 @@
 
 mod tables;
 
-ghost use Rattle.std.specs.Prelude.{◌≡◌, ◌<◌, length};
-ghost use Rattle.field.specs.Field.{double, pow2, times, inverse, Multiples, Powers, Logarithms};
+ghost use Rattle.std.specs.Prelude.{◌≡◌, ◌≤◌, ◌<◌, length};
+ghost use Rattle.field.specs.Field.{double, pow2, times, inverse, Multiples, SameFrom, Powers, Logarithms};
 
 // Twice a.
 pub fn twice(a: u8) -> u8
@@ -39,21 +39,19 @@ pub fn inv(a: u8) -> u8
     powers[255 - logarithm(&logarithms, a)]
 }
 
-// The multiples of c by the powers of 2 that the bits of a byte stand for, from 1 on. A product with
-// c is the sum of those whose bits are set in the other byte.
-pub fn multiples(c: u8) -> [u8; 8]
-    ensures { Multiples c result }
+// Fills the first 256 bytes of t with c times each byte. The rest of t stays.
+pub fn fill_multiples(c: u8, t: &mut [u8])
+    requires { 256 ≤ length t.old }
+    ensures multiples { Multiples c t.new }
+    ensures same_from { SameFrom 256 t.old t.new }
 {
     let powers = tables::POWERS;
     let logarithms = tables::LOGARITHMS;
-    let mut ms = [0u8; 8];
-    let mut n: usize = 0;
-    while n < 8 {
-        let power = powers[n];
-        ms[n] = product(&powers, &logarithms, c, power);
-        n += 1;
+    let mut k: usize = 0;
+    while k < 256 {
+        t[k] = product(&powers, &logarithms, c, k as u8);
+        k += 1;
     }
-    ms
 }
 
 // The n below 255 with 2 to the power n equal to a.

@@ -7,7 +7,7 @@ use super::requests;
 
 // What a line tells after a call: its number, then the shelf's mode, how many blocks are listed and its next free log record, and the
 // first byte read.
-#[derive(Clone, Copy)]
+#[derive(Drop)]
 pub struct Answer {
     pub code: usize,
     pub mode: usize,
@@ -17,7 +17,7 @@ pub struct Answer {
 }
 
 // A name: the first len of its bytes.
-#[derive(Clone, Copy)]
+#[derive(Drop)]
 struct Name {
     len: usize,
     bytes: [u8; 7],

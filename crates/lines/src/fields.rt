@@ -7,7 +7,7 @@ ghost use Rattle.lines.specs.Walking.{value_of, Ends, Cuts, fields_from, fields_
 pub const LIMIT: usize = 4294967296;
 
 // A field: its value, or LIMIT where it is none, and the index at which it ends.
-#[derive(Clone, Copy)]
+#[derive(Drop)]
 pub struct Field {
     pub value: usize,
     pub end: usize,

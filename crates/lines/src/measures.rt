@@ -6,7 +6,7 @@ ghost use Rattle.lines.specs.MeasureLines.{measures_line};
 use super::fields;
 
 // What a line of measures says: data disks, stripes, bytes in a block, log records, hash slots and places, in this order.
-#[derive(Clone, Copy)]
+#[derive(Drop)]
 pub enum Measures {
     Six(usize, usize, usize, usize, usize, usize),
     Unreadable,

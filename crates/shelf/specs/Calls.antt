@@ -1,15 +1,14 @@
--- What each call does to a shelf, where it is not refused: by a row of `Status.antt` or `Lent.antt`, or by 17, which looks at blocks and stands
--- here. Tables run over stripes below s, data indices below d and parity numbers below the number of parities; what they hold beyond is of no account.
--- The stripe that a resync makes is `resync_stripe`; which stripe it tells and the buffers that read and fetch fill stand in `Lent.antt`.
+-- What each call does to a shelf, where no row of `Status.antt` or `Lent.antt` refuses it. Tables run over stripes below s, data indices below
+-- d and parity numbers below the number of parities; what they hold beyond is of no account. The stripe that a resync makes is `resync_stripe`; which
+-- stripe it tells and the buffers that read and fetch fill stand in `Lent.antt`.
 -- Assumes nothing.
 use Rattle.std.specs.Prelude.{Bool, true, false, not, ◌&&◌, List, ℕ, zero, suc, ◌+◌, ◌-◌, eqb, ltb, leb}
 use Rattle.std.proofs.Math.Option.{Option, none, some}
 use Rattle.stripe.specs.Blocks.{block}
-use Rattle.stripe.specs.Calls.{or_next}
 use Rattle.shelf.specs.Counting.{choose, count, any, set_at}
-use Rattle.shelf.specs.Members.{array_members, log_member, parity_role, member_at, addresses, address_of, wanted, block_parity, other_missing, worked_back, confirmed}
+use Rattle.shelf.specs.Members.{array_members, log_member, parity_role, member_at, address_of, block_parity, worked_back}
 use Rattle.shelf.specs.State.{Log, State, is_some, listed, marks_in, lowest_stale}
-use Rattle.shelf.specs.Status.{Call, start, fail, put_back, write, read, fetch, resync, rebuild, new_log, full_resync, row, code_of}
+use Rattle.shelf.specs.Status.{Call, start, fail, put_back, write, read, fetch, resync, rebuild, new_log, full_resync, code_of}
 use Rattle.shelf.specs.declared.record.Geometry.{Geometry}
 
 -- ---- parts that several calls share
@@ -194,21 +193,6 @@ block_at g s x i =
     (or_else (s.log.ori x i) s.log.value (worked_back g (missing g s x) (original g s x) i)))
     (s.disk x i)
 
--- a lost block, which a fetch or a rebuild works back by parity: on a failed disk and unlisted
-abbrev pub lost : Geometry → State → ℕ → ℕ → Bool
-lost g s x i = s.failed (member_at g x i) && not (listed s.log x i)
-
--- A lost block is disputed where P and Q disagree about it: both are sound, no other original of its stripe is missing, and Q does not confirm the
--- block that P and the other originals give.
-unfoldable pub disputed : Geometry → State → ℕ → ℕ → Bool
-disputed g s x i =
-    ltb 1 g.parities
-    && (lost g s x i && (eqb (other_missing g (missing g s x) i) i && not (confirmed g (original g s x) i)))
-
--- one of n blocks from address a on is disputed
-abbrev pub some_disputed : Geometry → State → ℕ → ℕ → Bool
-some_disputed g s a n = any n (wanted g (disputed g s) a)
-
 -- ---- resync
 
 -- the stripe that a resync makes and tells, or s where none is stale
@@ -254,24 +238,10 @@ work g rebuild s = rebuilt g s
 work g new_log s = with_flags s (set_at (log_member g) false s.failed)
 work g full_resync s = remade g s s.disk s.failed
 
--- the number that a call gets from the rows of `Status.antt`
+-- the number that a call gets from the shelf
 abbrev pub code : Geometry → Call → State → ℕ
 code g c s = code_of g s.failed s.mode (listed s.log) c
 
--- 17, the first number that looks at the bytes of blocks: a wanted block is disputed. For a fetch these are the blocks asked for, for a rebuild all
--- data blocks; only lost ones can be disputed.
-unfoldable pub disputes : Geometry → Call → State → Bool
-disputes g start s = false
-disputes g (fail j) s = false
-disputes g (put_back j) s = false
-disputes g (write a n v) s = false
-disputes g (read a n len) s = false
-disputes g (fetch a n len) s = some_disputed g s a n
-disputes g resync s = false
-disputes g rebuild s = some_disputed g s 0 (addresses g)
-disputes g new_log s = false
-disputes g full_resync s = false
-
--- n, the number of the rows before; where it is 0, 17 if a wanted block is disputed, else 0
-abbrev pub or_disputed : Geometry → Call → State → ℕ → ℕ
-or_disputed g c s n = or_next n (row 17 (disputes g c s) 0)
+-- what a call leaves; a refused one stores nothing
+unfoldable pub after : Geometry → Call → State → State
+after g c s = choose (eqb (code g c s) 0) (work g c s) s

@@ -3,7 +3,7 @@
 -- Assumes nothing.
 use Rattle.std.specs.Prelude.{Bool, not, ◌&&◌, List, ◌≡◌, ℕ, ◌+◌, ◌*◌, ◌/◌, ◌%◌, ◌≤◌, eqb, ltb, length, get_or}
 use Rattle.stripe.specs.Blocks.{gen}
-use Rattle.stripe.specs.Parity.{every, parity_of, solved, confirms}
+use Rattle.stripe.specs.Parity.{parity_of, solved}
 use Rattle.stripe.specs.Places.{member_of, place}
 use Rattle.stripe.specs.Sound.{AreBytes}
 use Rattle.shelf.specs.Counting.{choose, first}
@@ -92,8 +92,3 @@ other_missing g missing i =
 -- data block i of a row of d + parities blocks, worked back from those that are not missing; i is, and with it no more than there are parities
 unfoldable pub worked_back : Geometry → (ℕ → Bool) → (ℕ → List ℕ) → ℕ → List ℕ
 worked_back g missing row i = gen g.b (λ j. solved g.d i (other_missing g missing i) (column row j))
-
--- whether the second parity confirms data block i of a row of d + 2 blocks, where it alone is missing: in each byte Q is that of the data with the
--- block worked back from P
-unfoldable pub confirmed : Geometry → (ℕ → List ℕ) → ℕ → Bool
-confirmed g row i = every g.b (λ j. confirms g.d i (column row j))

@@ -1,8 +1,7 @@
 -- The ten calls after format, and the numbers 4 to 14 and 16 that refuse them. Each row of the customer's tables is one definition, or one for each
 -- condition that it names, in the order of the table; `code_of` says which rows a call tries. Of the shelf the rows look at the failed members, the
 -- mode and the marked blocks only, so shelf and book are refused by the same definitions: marked are the shelf's listed blocks, or the book's marked
--- ones. Rows 1 to 3 and format stand in `Lent.antt`, 17, the one number that looks at blocks, in `Calls.antt`, the rows of the two stripe calls in the
--- stripe crate.
+-- ones. Rows 1 to 3 and format stand in `Lent.antt`, the rows of the two stripe calls in the stripe crate.
 -- Assumes nothing.
 use Rattle.std.specs.Prelude.{Bool, true, false, not, ◌&&◌, ◌||◌, List, ℕ, ◌+◌, ◌*◌, eqb, ltb, leb, length}
 use Rattle.shelf.specs.Counting.{count, any}

@@ -1,22 +1,17 @@
 // Blocks as a fetch gives them: those of sound disks as a read does, those of failed ones from the log, or worked back by parity from the
 // originals of their stripe.
-//
-// Lost blocks are tested first, by `confirm`; the one that was tested last is in a working block then, and is taken from there.
-ghost use Rattle.std.specs.Prelude.{true, false, not, ◌≡◌, ◌+◌, ◌*◌, ◌≤◌, ◌<◌, length};
+ghost use Rattle.std.specs.Prelude.{◌≡◌, ◌+◌, ◌*◌, ◌≤◌, ◌<◌, length};
 ghost use Rattle.stripe.specs.Blocks.{put};
+ghost use Rattle.stripe.specs.below.Steps.{Products};
 ghost use Rattle.stripe.specs.Parity.{Recoverable};
-ghost use Rattle.shelf.specs.below.Tables.{Tests};
 ghost use Rattle.shelf.specs.below.Records.{failed_role};
 ghost use Rattle.shelf.specs.Counting.{lesser};
-ghost use Rattle.shelf.specs.Members.{array_members};
-ghost use Rattle.shelf.specs.Calls.{some_disputed};
 ghost use Rattle.shelf.specs.Lent.{lent, state_of, fetch_buffer};
-ghost use Rattle.shelf.specs.below.Reading.{Ready, Working, WorkingAt, Known, solved_block, lost_block, served_block, served_to};
+ghost use Rattle.shelf.specs.below.Reading.{Ready, Working, WorkingAt, solved_block, lost_block, served_block, served_to};
 
-use super::{confirm, read, record, sources, words};
+use super::{read, record, sources, words};
 
-// Puts the n blocks from address a on in out, one after another, unless one that it works back is disputed; then it stores nothing and
-// answers false.
+// Puts the n blocks from address a on in out, one after another.
 pub fn fetch_blocks(
     shelf: record::Shelf,
     a: usize,
@@ -25,50 +20,33 @@ pub fn fetch_blocks(
     array: &[u8],
     log: &[u8],
     list: &[u8],
-) -> bool
+)
     requires ready { Ready (lent shelf array.now log.now list.now) }
     requires n_bound { a + n ≤ shelf.geometry.d * shelf.geometry.s }
     requires out_len { length out.old ≡ n * shelf.geometry.b }
-    ensures value { result ≡ not (some_disputed shelf.geometry (state_of (lent shelf array.now log.now list.now)) a n) }
-    ensures out_after { result ≡ true → out.new ≡ fetch_buffer shelf.geometry (state_of (lent shelf array.now log.now list.now)) a n }
-    ensures out_unchanged { result ≡ false → out.new ≡ out.old }
+    ensures { out.new ≡ fetch_buffer shelf.geometry (state_of (lent shelf array.now log.now list.now)) a n }
 {
     let g = shelf.geometry;
     if !shelf.array_failed() {
         read::read_blocks(g, a, n, out, array);
-        return true;
+        return;
     }
     let mut work = [0u8; 4096];
-    fetch_confirmed(shelf, a, n, out, array, log, list, &mut work[..g.b])
+    let mut products = [0u8; 258];
+    fetch_each(
+        shelf,
+        a,
+        n,
+        out,
+        array,
+        log,
+        list,
+        &mut work[..g.b],
+        &mut products,
+    );
 }
 
-// Does the same with a working block of b bytes: tests the lost ones among the blocks, then puts all n in.
-fn fetch_confirmed(
-    shelf: record::Shelf,
-    a: usize,
-    n: usize,
-    out: &mut [u8],
-    array: &[u8],
-    log: &[u8],
-    list: &[u8],
-    work: &mut [u8],
-) -> bool
-    requires working { Working (lent shelf array.now log.now list.now) work.old }
-    requires n_bound { a + n ≤ shelf.geometry.d * shelf.geometry.s }
-    requires out_len { length out.old ≡ n * shelf.geometry.b }
-    ensures value { result ≡ not (some_disputed shelf.geometry (state_of (lent shelf array.now log.now list.now)) a n) }
-    ensures out_after { result ≡ true → out.new ≡ fetch_buffer shelf.geometry (state_of (lent shelf array.now log.now list.now)) a n }
-    ensures out_unchanged { result ≡ false → out.new ≡ out.old }
-{
-    let found = confirm::confirm_blocks(shelf, a, n, array, log, list, work);
-    if found.disputed {
-        return false;
-    }
-    fetch_each(shelf, a, n, out, array, log, list, work, found.known);
-    true
-}
-
-// Puts the n blocks from address a on in out, stripe by stripe. The working block has the block of address known, unless that is none.
+// Does the same stripe by stripe, with a working block of b bytes; the table of products may be that of any pair of missing blocks.
 fn fetch_each(
     shelf: record::Shelf,
     a: usize,
@@ -77,11 +55,10 @@ fn fetch_each(
     array: &[u8],
     log: &[u8],
     list: &[u8],
-    work: &[u8],
-    known: usize,
+    work: &mut [u8],
+    products: &mut [u8],
 )
-    requires working { Working (lent shelf array.now log.now list.now) work.now }
-    requires known { Known (lent shelf array.now log.now list.now) known work.now }
+    requires working { Working (lent shelf array.now log.now list.now) work.old products.old }
     requires n_bound { a + n ≤ shelf.geometry.d * shelf.geometry.s }
     requires out_len { length out.old ≡ n * shelf.geometry.b }
     ensures { out.new ≡ fetch_buffer shelf.geometry (state_of (lent shelf array.now log.now list.now)) a n }
@@ -92,7 +69,7 @@ fn fetch_each(
         let spot = read::spot_of(a + j, d);
         let m = lesser(d - spot.i, n - j);
         fetch_stripe(
-            shelf, spot.x, spot.i, m, out, j, array, log, list, work, known,
+            shelf, spot.x, spot.i, m, out, j, array, log, list, work, products,
         );
         j += m;
     }
@@ -108,7 +85,7 @@ fn lesser(a: usize, b: usize) -> usize
     b
 }
 
-// Puts m blocks of stripe x, from data index i on, in out, from its block j on.
+// Puts m blocks of stripe x, from data index i on, in out, from its block j on. The stripe's entries are read once for all of them.
 fn fetch_stripe(
     shelf: record::Shelf,
     x: usize,
@@ -119,104 +96,99 @@ fn fetch_stripe(
     array: &[u8],
     log: &[u8],
     list: &[u8],
-    work: &[u8],
-    known: usize,
+    work: &mut [u8],
+    products: &mut [u8],
 )
-    requires working { Working (lent shelf array.now log.now list.now) work.now }
-    requires known { Known (lent shelf array.now log.now list.now) known work.now }
+    requires working { Working (lent shelf array.now log.now list.now) work.old products.old }
     requires x_lt_s { x < shelf.geometry.s }
     requires m_bound { i + m ≤ shelf.geometry.d }
     requires m_bound_2 { j + m ≤ 1048576 }
     requires b_in_bounds { (j + m) * shelf.geometry.b ≤ length out.old }
-    ensures { out.new ≡ served_to (lent shelf array.now log.now list.now) x i j m out.old }
+    ensures out_after { out.new ≡ served_to (lent shelf array.now log.now list.now) x i j m out.old }
+    ensures products { Products products.new }
 {
     let lost = shelf.failed_roles(x);
+    let from = sources::sources_of(shelf, list, x, lost);
     let mut k: usize = 0;
     while k < m {
         put_block(
             shelf,
             x,
             i + k,
-            lost,
+            lost[i + k],
+            from,
             out,
             j + k,
             array,
             log,
             list,
             work,
-            known,
+            products,
         );
         k += 1;
     }
 }
 
-// Puts the block with data index i of stripe x, whose roles on failed members lost tells, in out, as its block j.
+// Puts the block with data index i of stripe x, which is lost where its member has failed, in out, as its block j.
 fn put_block(
     shelf: record::Shelf,
     x: usize,
     i: usize,
-    lost: [bool; 18],
+    lost: bool,
+    from: sources::Sources,
     out: &mut [u8],
     j: usize,
     array: &[u8],
     log: &[u8],
     list: &[u8],
-    work: &[u8],
-    known: usize,
+    work: &mut [u8],
+    products: &mut [u8],
 )
-    requires working { Working (lent shelf array.now log.now list.now) work.now }
-    requires known { Known (lent shelf array.now log.now list.now) known work.now }
-    requires x_lt_s { x < shelf.geometry.s }
-    requires i_lt_d { i < shelf.geometry.d }
-    requires tests { Tests (array_members shelf.geometry) (failed_role shelf x) lost }
+    requires working_at { WorkingAt (lent shelf array.now log.now list.now) x i from work.old products.old }
+    requires lost_value { lost ≡ failed_role shelf x i }
     requires b_in_bounds { j * shelf.geometry.b + shelf.geometry.b ≤ length out.old }
-    ensures { out.new ≡ put shelf.geometry.b j
+    ensures out_after { out.new ≡ put shelf.geometry.b j
         (served_block (lent shelf array.now log.now list.now) x i) out.old }
+    ensures products { Products products.new }
 {
     let g = shelf.geometry;
-    if !lost[i] {
+    if !lost {
         let k = stripe::places::block_number(g.layout, g.d, g.parities, g.s, x, i);
         stripe::blocks::copy_block(array, k, out, j, g.b);
         return;
     }
-    if x * g.d + i == known {
-        stripe::blocks::copy_block(work, 0, out, j, g.b);
+    let latest = from.latest;
+    let r = latest[i];
+    if r != words::NONE {
+        stripe::blocks::copy_block(log, r, out, j, g.b);
         return;
     }
-    put_failed(shelf, x, i, lost, out, j, array, log, list);
+    put_lost(shelf, x, i, from, out, j, array, log, list, work, products);
 }
 
-// Puts the block with data index i of stripe x, which is on a failed member, in out, as its block j: from the log, or worked back there.
-fn put_failed(
+// Puts the block with data index i of stripe x, worked back by parity, in out, as its block j.
+fn put_lost(
     shelf: record::Shelf,
     x: usize,
     i: usize,
-    lost: [bool; 18],
+    from: sources::Sources,
     out: &mut [u8],
     j: usize,
     array: &[u8],
     log: &[u8],
     list: &[u8],
+    work: &mut [u8],
+    products: &mut [u8],
 )
-    requires ready { Ready (lent shelf array.now log.now list.now) }
-    requires x_lt_s { x < shelf.geometry.s }
-    requires i_lt_d { i < shelf.geometry.d }
-    requires tests { Tests (array_members shelf.geometry) (failed_role shelf x) lost }
-    requires i_value { failed_role shelf x i ≡ true }
+    requires working_at { WorkingAt (lent shelf array.now log.now list.now) x i from work.old products.old }
     requires b_in_bounds { j * shelf.geometry.b + shelf.geometry.b ≤ length out.old }
-    ensures { out.new ≡ put shelf.geometry.b j
-        (served_block (lent shelf array.now log.now list.now) x i) out.old }
+    ensures out_after { out.new ≡ put shelf.geometry.b j
+        (lost_block (lent shelf array.now log.now list.now) x i) out.old }
+    ensures products { Products products.new }
 {
-    let b = shelf.geometry.b;
-    let from = sources::sources_of(shelf, list, x, lost);
-    let latest = from.latest;
-    let r = latest[i];
-    if r != words::NONE {
-        stripe::blocks::copy_block(log, r, out, j, b);
-        return;
-    }
-    let at = j * b;
-    recover_block(shelf, x, i, from, array, log, list, &mut out[at..at + b]);
+    let g = shelf.geometry;
+    recover_block(shelf, x, i, from, array, log, list, work, products);
+    stripe::blocks::copy_block(work, 0, out, j, g.b);
 }
 
 // Works back the block with data index i of stripe x in work.
@@ -229,13 +201,15 @@ fn recover_block(
     log: &[u8],
     list: &[u8],
     work: &mut [u8],
+    products: &mut [u8],
 )
-    requires { WorkingAt (lent shelf array.now log.now list.now) x i from work.old }
-    ensures { work.new ≡ lost_block (lent shelf array.now log.now list.now) x i }
+    requires { WorkingAt (lent shelf array.now log.now list.now) x i from work.old products.old }
+    ensures work_after { work.new ≡ lost_block (lent shelf array.now log.now list.now) x i }
+    ensures products { Products products.new }
 {
     let missing = from.missing;
     let y = sources::other_missing(shelf.geometry, missing, i);
-    solve_originals(shelf, x, i, y, from, array, log, list, work);
+    solve_originals(shelf, x, i, y, from, array, log, list, work, products);
 }
 
 // Solves the block with data index i of stripe x in work, from the stripe's originals, where role y is missing too or is i itself.
@@ -249,10 +223,12 @@ pub fn solve_originals(
     log: &[u8],
     list: &[u8],
     work: &mut [u8],
+    products: &mut [u8],
 )
-    requires working_at { WorkingAt (lent shelf array.now log.now list.now) x i from work.old }
+    requires working_at { WorkingAt (lent shelf array.now log.now list.now) x i from work.old products.old }
     requires recoverable { Recoverable shelf.geometry.parities i y }
-    ensures { work.new ≡ solved_block (lent shelf array.now log.now list.now) x i y }
+    ensures work_after { work.new ≡ solved_block (lent shelf array.now log.now list.now) x i y }
+    ensures products { Products products.new }
 {
     let g = shelf.geometry;
     let ns = from.originals;
@@ -262,6 +238,7 @@ pub fn solve_originals(
         g.array_members() * g.s,
         &ns,
         work,
+        products,
         g.d,
         g.b,
         i,

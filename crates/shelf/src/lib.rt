@@ -1,18 +1,18 @@
 // A record shelf: an array with two parities (RAID-6) or one, the making of which can be put off through a log and a list. The caller
 // lends the record, the array, the log and the list to each call; nothing is kept between calls.
 //
-// Here stand the calls for C. Below them: `record` has the shelf record and its methods, `status` decides the number by which a call is
-// refused, before anything is stored, but for 17, which `confirm` finds: whether the two parities agree about lost blocks. The list of the blocks whose parity is put off is bytes: `words` reads and writes them as 32-bit
-// words, `place` those of a list place, `list` finds the place of an address and tests a list for number 3, `entries` reads and replaces
-// the entries of a stripe, `sources` tells from them where the stripe's blocks are to be had, `stale` which stripes have a listed block.
-// `alter` drops and replaces a stripe's entries and drops those of stripes that lost their parity, over `moves`, which moves entries in
-// their places, and `links`, which has slot heads and Next words follow. The calls that move blocks have a file each, `read`, `fetch`,
-// `write`, `resync`, `rebuild`; a write's stripe goes by its `share` of the caller's data, and one that is logged by a `plan`, `log` and
-// `copies`. The contracts cite `specs/`: `Lent.antt` has the promise of every call, `Calls.antt` what each does.
+// Here stand the calls, which the crate `shelf_c` exports for C. Below them: `record` has the shelf record and its methods, `status`
+// decides the number by which a call is refused, before anything is stored. The list of the blocks whose parity is put off is bytes:
+// `words` reads and writes them as 32-bit words, `place` those of a list place, `list` finds the place of an address and tests a list for
+// number 3, `entries` reads and replaces the entries of a stripe, `sources` tells from them where the stripe's blocks are to be had,
+// `stale` which stripes have a listed block. `alter` drops and replaces a stripe's entries and drops those of stripes that lost their
+// parity, over `moves`, which moves entries in their places, and `links`, which has slot heads and Next words follow. The calls that move
+// blocks have a file each, `read`, `fetch`, `write`, `resync`, `rebuild`; a write's stripe goes by its `share` of the caller's data, and
+// one that is logged by a `plan`, `log` and `copies`. The contracts cite `specs/`: `Lent.antt` has the promise of every call, `Calls.antt`
+// what each does.
 #![tactic(auto)]
 
 mod alter;
-mod confirm;
 mod copies;
 mod entries;
 mod fetch;
@@ -199,8 +199,8 @@ pub fn shelf_read(
 }
 
 // The recovering read: reads count blocks from an address on into out, of count times b bytes, those on failed disks from the log or
-// worked back by parity. Answers 0; or the first of 1, 2, 3, 4, 5, 14, 17 that applies, and then out stays as it was. Stores no byte of
-// the shelf.
+// worked back by parity. Answers 0; or the first of 1, 2, 3, 4, 5, 14 that applies, and then out stays as it was. Stores no byte of the
+// shelf.
 pub fn shelf_fetch(
     shelf: record::Shelf,
     address: usize,
@@ -220,9 +220,7 @@ pub fn shelf_fetch(
     if code != 0 {
         return Answer { code, shelf };
     }
-    if !fetch::fetch_blocks(shelf, address, count, out, array, log, list) {
-        return Answer { code: 17, shelf };
-    }
+    fetch::fetch_blocks(shelf, address, count, out, array, log, list);
     Answer { code: 0, shelf }
 }
 
@@ -278,7 +276,7 @@ pub fn shelf_resync(shelf: record::Shelf, array: &mut [u8], log: &[u8], list: &m
 
 // Fills every data block on a failed member with what a fetch gives and clears the array's flags. In the stripes with a parity on a
 // failed member all parities are made afresh and the listed blocks are dropped; if no block is left listed, all log records are free
-// and mode 2 ends. Mode 1 remains. Answers 0; or the first of 1, 2, 3, 12, 14, 17 that applies, and then stores nothing.
+// and mode 2 ends. Mode 1 remains. Answers 0; or the first of 1, 2, 3, 12, 14 that applies, and then stores nothing.
 pub fn shelf_rebuild(shelf: record::Shelf, array: &mut [u8], log: &[u8], list: &mut [u8]) -> Answer
     ensures { Answered (lent shelf array.old log.now list.old) rebuild result.code
         (lent result.shelf array.new log.now list.new) }
@@ -287,9 +285,7 @@ pub fn shelf_rebuild(shelf: record::Shelf, array: &mut [u8], log: &[u8], list: &
     if code != 0 {
         return Answer { code, shelf };
     }
-    if !rebuild::rebuild_array(shelf, array, log, list) {
-        return Answer { code: 17, shelf };
-    }
+    rebuild::rebuild_array(shelf, array, log, list);
     Answer {
         code: 0,
         shelf: rebuild::settle(shelf, list),

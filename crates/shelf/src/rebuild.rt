@@ -1,63 +1,45 @@
 // A rebuild: every data block on a failed member is filled with what a fetch gives, stripe after stripe, and parity is made afresh in the
 // stripes that had a parity on a failed member.
-ghost use Rattle.std.specs.Prelude.{true, false, not, ◌≡◌, ◌<◌};
+ghost use Rattle.std.specs.Prelude.{true, ◌≡◌, ◌<◌};
+ghost use Rattle.stripe.specs.below.Steps.{Products};
 ghost use Rattle.shelf.specs.below.Lists.{Measures, Lists};
 ghost use Rattle.shelf.specs.below.Records.{Sized, failed_role};
 ghost use Rattle.shelf.specs.Words.{words};
-ghost use Rattle.shelf.specs.Members.{addresses};
-ghost use Rattle.shelf.specs.Calls.{some_disputed};
-ghost use Rattle.shelf.specs.Lent.{lent, state_of};
+ghost use Rattle.shelf.specs.Lent.{lent};
 ghost use Rattle.shelf.specs.below.Rewriting.{Rewritten};
 ghost use Rattle.shelf.specs.below.Reading.{Working, WorkingAt, lost_block};
 ghost use Rattle.shelf.specs.below.Rebuilding.{Rebuildable, Lost, FilledBelow, still_missing, filled_at, filled_to, stripe_rebuilt, rebuilt_to, rebuilt_record, kept_entries};
 
-use super::{alter, confirm, fetch, record, sources, words};
+use super::{alter, fetch, record, sources, words};
 
-// Rebuilds every stripe of the array, unless a block that it works back is disputed; then it stores nothing and answers false.
-pub fn rebuild_array(shelf: record::Shelf, array: &mut [u8], log: &[u8], list: &[u8]) -> bool
+// Rebuilds every stripe of the array. One working block and one table of products serve them all.
+pub fn rebuild_array(shelf: record::Shelf, array: &mut [u8], log: &[u8], list: &[u8])
     requires { Rebuildable (lent shelf array.old log.now list.now) }
-    ensures value { result ≡ not (some_disputed shelf.geometry (state_of (lent shelf array.old log.now list.now)) 0 (addresses shelf.geometry)) }
-    ensures array_after { result ≡ true → array.new ≡ rebuilt_to (lent shelf array.old log.now list.now) shelf.geometry.s }
-    ensures array_unchanged { result ≡ false → array.new ≡ array.old }
+    ensures { array.new ≡ rebuilt_to (lent shelf array.old log.now list.now) shelf.geometry.s }
 {
     let g = shelf.geometry;
     let mut work = [0u8; 4096];
-    rebuild_confirmed(shelf, array, log, list, &mut work[..g.b])
+    let mut products = [0u8; 258];
+    rebuild_stripes(shelf, array, log, list, &mut work[..g.b], &mut products);
 }
 
-// Does the same with a working block of b bytes: tests the lost blocks of all stripes, then rebuilds the stripes.
-fn rebuild_confirmed(
+// Rebuilds every stripe of the array, in rising order.
+fn rebuild_stripes(
     shelf: record::Shelf,
     array: &mut [u8],
     log: &[u8],
     list: &[u8],
     work: &mut [u8],
-) -> bool
+    products: &mut [u8],
+)
     requires rebuildable { Rebuildable (lent shelf array.old log.now list.now) }
-    requires working { Working (lent shelf array.old log.now list.now) work.old }
-    ensures value { result ≡ not (some_disputed shelf.geometry (state_of (lent shelf array.old log.now list.now)) 0 (addresses shelf.geometry)) }
-    ensures array_after { result ≡ true → array.new ≡ rebuilt_to (lent shelf array.old log.now list.now) shelf.geometry.s }
-    ensures array_unchanged { result ≡ false → array.new ≡ array.old }
-{
-    let g = shelf.geometry;
-    let found = confirm::confirm_blocks(shelf, 0, g.d * g.s, array, log, list, work);
-    if found.disputed {
-        return false;
-    }
-    rebuild_stripes(shelf, array, log, list, work);
-    true
-}
-
-// Rebuilds every stripe of the array, in rising order.
-fn rebuild_stripes(shelf: record::Shelf, array: &mut [u8], log: &[u8], list: &[u8], work: &mut [u8])
-    requires rebuildable { Rebuildable (lent shelf array.old log.now list.now) }
-    requires working { Working (lent shelf array.old log.now list.now) work.old }
+    requires working { Working (lent shelf array.old log.now list.now) work.old products.old }
     ensures { array.new ≡ rebuilt_to (lent shelf array.old log.now list.now) shelf.geometry.s }
 {
     let s = shelf.geometry.s;
     let mut x: usize = 0;
     while x < s {
-        rebuild_stripe(shelf, x, array, log, list, work);
+        rebuild_stripe(shelf, x, array, log, list, work, products);
         x += 1;
     }
 }
@@ -70,14 +52,16 @@ fn rebuild_stripe(
     log: &[u8],
     list: &[u8],
     work: &mut [u8],
+    products: &mut [u8],
 )
     requires rebuildable { Rebuildable (lent shelf array.old log.now list.now) }
-    requires working { Working (lent shelf array.old log.now list.now) work.old }
+    requires working { Working (lent shelf array.old log.now list.now) work.old products.old }
     requires x_lt_s { x < shelf.geometry.s }
-    ensures { array.new ≡ stripe_rebuilt (lent shelf array.old log.now list.now) x }
+    ensures array_after { array.new ≡ stripe_rebuilt (lent shelf array.old log.now list.now) x }
+    ensures products { Products products.new }
 {
     let g = shelf.geometry;
-    fill_stripe(shelf, x, array, log, list, work);
+    fill_stripe(shelf, x, array, log, list, work, products);
     if shelf.parity_failed(x) {
         stripe::parity::make_parity(array, g.layout, g.d, g.parities, g.s, x, g.b);
     }
@@ -91,11 +75,13 @@ fn fill_stripe(
     log: &[u8],
     list: &[u8],
     work: &mut [u8],
+    products: &mut [u8],
 )
     requires rebuildable { Rebuildable (lent shelf array.old log.now list.now) }
-    requires working { Working (lent shelf array.old log.now list.now) work.old }
+    requires working { Working (lent shelf array.old log.now list.now) work.old products.old }
     requires x_lt_s { x < shelf.geometry.s }
-    ensures { array.new ≡ filled_to (lent shelf array.old log.now list.now) x shelf.geometry.d }
+    ensures array_after { array.new ≡ filled_to (lent shelf array.old log.now list.now) x shelf.geometry.d }
+    ensures products { Products products.new }
 {
     let d = shelf.geometry.d;
     let lost = shelf.failed_roles(x);
@@ -103,7 +89,7 @@ fn fill_stripe(
     let mut i: usize = 0;
     while i < d {
         if lost[i] {
-            fill_block(shelf, x, i, from, array, log, list, work);
+            fill_block(shelf, x, i, from, array, log, list, work, products);
         }
         i += 1;
     }
@@ -119,12 +105,14 @@ fn fill_block(
     log: &[u8],
     list: &[u8],
     work: &mut [u8],
+    products: &mut [u8],
 )
     requires rebuildable { Rebuildable (lent shelf array.old log.now list.now) }
-    requires working_at { WorkingAt (lent shelf array.old log.now list.now) x i from work.old }
+    requires working_at { WorkingAt (lent shelf array.old log.now list.now) x i from work.old products.old }
     requires filled_below { FilledBelow (lent shelf array.old log.now list.now) x i }
     requires i_value { failed_role shelf x i ≡ true }
-    ensures { array.new ≡ filled_at (lent shelf array.old log.now list.now) x i }
+    ensures array_after { array.new ≡ filled_at (lent shelf array.old log.now list.now) x i }
+    ensures products { Products products.new }
 {
     let g = shelf.geometry;
     let k = stripe::places::block_number(g.layout, g.d, g.parities, g.s, x, i);
@@ -134,7 +122,7 @@ fn fill_block(
         stripe::blocks::copy_block(log, r, array, k, g.b);
         return;
     }
-    refill_block(shelf, x, i, from, array, log, list, work);
+    refill_block(shelf, x, i, from, array, log, list, work, products);
     stripe::blocks::copy_block(work, 0, array, k, g.b);
 }
 
@@ -149,17 +137,19 @@ fn refill_block(
     log: &[u8],
     list: &[u8],
     work: &mut [u8],
+    products: &mut [u8],
 )
     requires rebuildable { Rebuildable (lent shelf array.now log.now list.now) }
-    requires working_at { WorkingAt (lent shelf array.now log.now list.now) x i from work.old }
+    requires working_at { WorkingAt (lent shelf array.now log.now list.now) x i from work.old products.old }
     requires filled_below { FilledBelow (lent shelf array.now log.now list.now) x i }
     requires lost { Lost shelf list.now x i }
-    ensures { work.new ≡ lost_block (lent shelf array.now log.now list.now) x i }
+    ensures work_after { work.new ≡ lost_block (lent shelf array.now log.now list.now) x i }
+    ensures products { Products products.new }
 {
     let missing = from.missing;
     let y = sources::other_missing(shelf.geometry, missing, i);
     let z = still_missing(i, y);
-    fetch::solve_originals(shelf, x, i, z, from, array, log, list, work);
+    fetch::solve_originals(shelf, x, i, z, from, array, log, list, work, products);
 }
 
 // The other missing role y beside i, unless it is a block below i, which is filled; then i.

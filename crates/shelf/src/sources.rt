@@ -1,6 +1,6 @@
 // Where the blocks of a stripe are to be had: worked out once for a stripe, from its entries in the list and the roles that are on failed
 // members.
-ghost use Rattle.std.specs.Prelude.{not, ◌&&◌, ◌||◌, ◌≡◌, ◌+◌, ◌<◌, eqb, ltb, get_or};
+ghost use Rattle.std.specs.Prelude.{not, ◌||◌, ◌≡◌, ◌+◌, ◌<◌, eqb};
 ghost use Rattle.stripe.specs.below.Tables.{Tabled};
 ghost use Rattle.shelf.specs.Counting.{choose};
 ghost use Rattle.shelf.specs.below.Tables.{Tests, tested};
@@ -111,24 +111,6 @@ fn is_missing(o: usize, c: usize, lost: bool) -> bool
         return true;
     }
     lost
-}
-
-// Whether the block with data index i, which is on a failed member, is tested by the second parity where it is worked back: it is not
-// listed, there are two parities, and nothing else of its stripe is missing.
-pub fn is_tested(g: record::Geometry, from: Sources, i: usize) -> bool
-    requires sized { Sized g }
-    requires i_lt_d { i < g.d }
-    ensures { result ≡ (ltb 1 g.parities && (eqb (get_or from.latest i 0) none_word && eqb (other_missing g (tested from.missing) i) i)) }
-{
-    if g.parities < 2 {
-        return false;
-    }
-    let latest = from.latest;
-    if latest[i] != words::NONE {
-        return false;
-    }
-    let missing = from.missing;
-    other_missing(g, missing, i) == i
 }
 
 // The lowest missing role beside i, or i where no other is missing or there is one parity.

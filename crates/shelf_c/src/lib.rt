@@ -106,8 +106,8 @@ pub extern "C" fn shelf_read(
 }
 
 // The recovering read: reads count blocks from an address on into out, of count times b bytes, those on failed disks from the log or
-// worked back by parity. Answers 0; or the first of 1, 2, 3, 4, 5, 14, 17 that applies, and then out stays as it was. Stores no byte of
-// the shelf.
+// worked back by parity. Answers 0; or the first of 1, 2, 3, 4, 5, 14 that applies, and then out stays as it was. Stores no byte of the
+// shelf.
 #[unsafe(no_mangle)]
 pub extern "C" fn shelf_fetch(
     shelf: Shelf,
@@ -153,7 +153,7 @@ pub extern "C" fn shelf_resync(
 
 // Fills every data block on a failed member with what a fetch gives and clears the array's flags. In the stripes with a parity on a
 // failed member all parities are made afresh and the listed blocks are dropped; if no block is left listed, all log records are free
-// and mode 2 ends. Mode 1 remains. Answers 0; or the first of 1, 2, 3, 12, 14, 17 that applies, and then stores nothing.
+// and mode 2 ends. Mode 1 remains. Answers 0; or the first of 1, 2, 3, 12, 14 that applies, and then stores nothing.
 #[unsafe(no_mangle)]
 pub extern "C" fn shelf_rebuild(
     shelf: Shelf,

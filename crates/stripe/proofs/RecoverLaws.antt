@@ -1,30 +1,27 @@
 -- Laws of recovery in two steps: each step on every column, one after the other, is what recovery is defined to be.
 -- Assumes nothing.
-use mathlib.Core.Bool.{Bool, true, false, not, ◌||◌, ◌&&◌}
+use mathlib.Core.Bool.{Bool, true, false, ◌||◌}
 use mathlib.Core.List.{List, [], ◌++◌, append-nil}
 use mathlib.Core.Logic.{◌⊎◌, inl, inr, ⊎_elim, ◌≢◌}
 use mathlib.Core.Path.{◌≡◌, refl, sym, ap, ap₂, ◌∙◌, subst}
 use Prim.Native.Nat.{ℕ, ◌+◌, ◌*◌, ◌≤◌, ◌<◌}
 use native.Mathlib.Omega.{arith}
 use lib.Bits.{bit_xor}
-use lib.Dec.{eqb, ltb}
-use lib.ListN.{length, get_or, set, length-set}
-use lib.Seq.{get_or-set_same, get_or-set_other}
-use borrow.Author.Tests.{eqb-true, eq-eqb, ne_eqb, lt-ltb, le-ltb}
+use lib.Dec.{eqb}
+use lib.ListN.{length, get_or}
+use borrow.Author.Tests.{eqb-true, eq-eqb, ne_eqb}
 use Rattle.field.specs.Field.{times, inverse}
-use Rattle.field.proofs.Laws.{one_times}
+use Rattle.field.proofs.Laws.{xor_zero_l}
 use Rattle.stripe.specs.Blocks.{gen, block, byte_of, put}
-use Rattle.stripe.specs.Parity.{pick, every, one, weight_in, parity_p, parity_q, parity_of, made, Recoverable, without, rest_p, from_p, solved, data_solved, recovered, confirms}
+use Rattle.stripe.specs.Parity.{pick, parity_p, parity_q, made, Recoverable, without, rest_p, solved, data_solved, recovered}
 use Rattle.stripe.specs.Places.{in_order, numbered, column_at, by_column, parity_made}
-use Rattle.stripe.specs.below.Tables.{Tabled, Held, Placed, Whole}
-use Rattle.stripe.specs.below.Steps.{Gathers, by_test, taken, plus, stand_in, standing_q, coefficient, of_sum, sum_of, Workable, replaced, data_step, parity_step}
-use Rattle.stripe.specs.Calls.{each_column, disputed}
+use Rattle.stripe.specs.below.Tables.{Tabled, Held, Whole}
+use Rattle.stripe.specs.below.Steps.{Gathers, Starts, zeros, taken, plus, there_p, stand_in, standing_q, coefficient, of_sum, sum_of, Workable, replaced, data_step, parity_step}
+use Rattle.stripe.specs.Calls.{each_column}
 use Rattle.stripe.proofs.Lists.{less_or_not, length-gen, gen_ext}
 use Rattle.stripe.proofs.BlockLaws.{fits, ext_bytes, length-put, get_or-put_in, block-whole}
-use Rattle.stripe.proofs.Sums.{same_or_not, pick_same, pick_other, pick_less, pick-not_less, either_true, without_other, without_ext, sum_ext, sum-without-one}
-use Rattle.stripe.proofs.ColumnLaws.{made_data, made_p, made_q, made_ext, parity_p_ext, parity_q_ext, solved-same, solved_ignores, second_of_two, rest_p_ext, stand_in_plain, recovered_other}
-use Rattle.stripe.proofs.ConfirmTheorems.{filled_same, filled_other, confirms_ext}
-use Rattle.stripe.proofs.Tests.{every_ext}
+use Rattle.stripe.proofs.Sums.{same_or_not, pick_same, pick_other, pick_less, pick-not_less, either_true, without_other, without_ext}
+use Rattle.stripe.proofs.ColumnLaws.{made_data, made_p, made_q, made_ext, parity_p_ext, parity_q_ext, solved_ignores, second_of_two, rest_p_ext, stand_in_plain, recovered_other}
 use Rattle.stripe.proofs.SolveLaws.{by_p, by_q, stand_in_first, stand_in_second, stand_in_other}
 use Rattle.stripe.proofs.PlaceLaws.{by_column_ext}
 use Rattle.stripe.proofs.CallLaws.{put-column, made_alone}
@@ -319,6 +316,20 @@ module _ (d k b : ℕ) (l w ns : List ℕ) (ok : Workable d k b l w ns) where
       → n ≡ each_column (replaced x (solved d x y)) (d + k) b l
   data_put x y v n few h ev en = column-put (solved d x y) (d + k) b x ns l v n (solved_local d k x y some few h) stripe-long ok.table (omega arith) ev en
 
+  pub p_put : (z v n : List ℕ) → Starts b z zeros → v ≡ gen b (plus (by_column (there_p d d d) (numbered ns) b (l ++ [])) z) → n ≡ put b d (block b 0 v) l
+      → n ≡ each_column (replaced d (parity_p d)) (d + k) b l
+  p_put z v n hz ev en =
+      column-put (parity_p d) (d + k) b d ns l v n (λ D E e. parity_p_ext d D E (λ i p. e i (omega arith))) stripe-long ok.table (omega arith) (ev ∙ same) en
+    where
+      same : gen b (plus (by_column (there_p d d d) (numbered ns) b (l ++ [])) z) ≡ gen b (by_column (parity_p d) (numbered ns) b (l ++ []))
+      same = unfold plus by_column there_p zeros in (
+          gen_ext b (plus (by_column (there_p d d d) (numbered ns) b (l ++ [])) z) (by_column (parity_p d) (numbered ns) b (l ++ []))
+          (λ j q.
+          ap (λ (z : ℕ). bit_xor z (parity_p d (without d d (column_at (numbered ns) b (l ++ []) j)))) (hz j q)
+          ∙ xor_zero_l (parity_p d (without d d (column_at (numbered ns) b (l ++ []) j)))
+          ∙ parity_p_ext d (without d d (column_at (numbered ns) b (l ++ []) j)) (column_at (numbered ns) b (l ++ []) j)
+          (λ i p. without_other d d (column_at (numbered ns) b (l ++ []) j) i (λ e. omega arith) (λ e. omega arith))))
+
   pub q_put : 2 ≤ k → (v n : List ℕ) → v ≡ gen b (by_column (standing_q d d d) (numbered ns) b (l ++ [])) → n ≡ put b (d + 1) (block b 0 v) l
       → n ≡ each_column (replaced (d + 1) (parity_q d)) (d + k) b l
   q_put two v n ev en =
@@ -340,10 +351,11 @@ module _ (d k b : ℕ) (l w ns : List ℕ) (ok : Workable d k b l w ns) where
       → n ≡ each_column (replaced x (of_sum d x y)) (d + k) b l
   of_sum_put two x y v n h ev en = column-put (of_sum d x y) (d + k) b x ns l v n (of_sum_local d k x y two h) stripe-long ok.table (omega arith) ev en
 
-  -- x, which is v too, is in its place in m: y gets the sum of both in m
-  pub other_put : (x y : ℕ) (v m n : List ℕ) → x < d → y < d → length v ≡ b → m ≡ put b x (block b 0 v) l → n ≡ put b y (gen b (plus (taken (y * b) m) v)) m
-      → n ≡ each_column (replaced y (sum_of x y)) (d + k) b m
-  other_put x y v m n hx hy lv em en = en ∙ ap (λ (u : List ℕ). put b y u m) same ∙ put-column (d + k) b m m_long (sum_of x y) y (omega arith)
+  -- x, which is v too, is in its place in m: y is the sum of both in m
+  pub other_put : (x y : ℕ) (v m u n : List ℕ) → x < d → y < d → length v ≡ b → m ≡ put b x (block b 0 v) l → u ≡ gen b (plus (taken (get_or ns y 0 * b) (m ++ [])) v)
+      → n ≡ put b y (block b 0 u) m → n ≡ each_column (replaced y (sum_of x y)) (d + k) b m
+  other_put x y v m u n hx hy lv em eu en =
+      column-put (sum_of x y) (d + k) b y ns m u n (λ D E e. unfold sum_of in ap₂ bit_xor (e x (omega arith)) (e y (omega arith))) m_long ok.table (omega arith) (eu ∙ same) en
     where
       x_fits : x * b + b ≤ length l
       x_fits = fits x (d + k) b l stripe-long (omega arith)
@@ -354,13 +366,15 @@ module _ (d k b : ℕ) (l w ns : List ℕ) (ok : Workable d k b l w ns) where
       m_long : length m ≡ (d + k) * b
       m_long = ap length m_is ∙ length-put b x l x_fits v lv ∙ stripe-long
 
-      cell : (j : ℕ) → j < b → get_or v j 0 ≡ get_or m (x * b + j) 0
-      cell j q = sym (get_or-put_in b x l x_fits v lv j q) ∙ ap (λ (z : List ℕ). get_or z (x * b + j) 0) (sym m_is)
+      cell : (j : ℕ) → j < b → get_or v j 0 ≡ column_at (numbered ns) b (m ++ []) j x
+      cell j q = unfold column_at byte_of numbered in (
+          sym (get_or-put_in b x l x_fits v lv j q) ∙ ap (λ (z : List ℕ). get_or z (x * b + j) 0) (sym m_is)
+          ∙ ap₂ (λ (z : List ℕ) (i : ℕ). get_or z (i * b + j) 0) (sym (append-nil m)) (sym (ok.table x (omega arith) ∙ in_order_lem x)))
 
-      same : gen b (plus (taken (y * b) m) v) ≡ gen b (by_column (sum_of x y) in_order b m)
+      same : gen b (plus (taken (get_or ns y 0 * b) (m ++ [])) v) ≡ gen b (by_column (sum_of x y) (numbered ns) b (m ++ []))
       same = unfold plus taken by_column sum_of in (
-          gen_ext b (plus (taken (y * b) m) v) (by_column (sum_of x y) in_order b m)
-          (λ j q. unfold column_at byte_of in_order in ap (λ (z : ℕ). bit_xor z (get_or m (y * b + j) 0)) (cell j q)))
+          gen_ext b (plus (taken (get_or ns y 0 * b) (m ++ [])) v) (by_column (sum_of x y) (numbered ns) b (m ++ []))
+          (λ j q. ap₂ bit_xor (cell j q) (unfold column_at byte_of numbered in refl)))
 
 -- the same arguments after a step, which keeps all lengths
 pub workable_after : {d k b : ℕ} {l w ns : List ℕ} (m v : List ℕ) → length m ≡ length l → length v ≡ length w → Workable d k b l w ns → Workable d k b m v ns
@@ -371,119 +385,11 @@ workable_after {d} {k} {b} m v em ev ok =
 pub in_a_row : (f g : (ℕ → ℕ) → ℕ → ℕ) (r b : ℕ) (l m n : List ℕ) → m ≡ each_column f r b l → n ≡ each_column g r b m → n ≡ each_column g r b (each_column f r b l)
 in_a_row f g r b l m n em en = en ∙ ap (each_column g r b) em
 
--- ---- x, data or P, as the sum of the others of data and P: the table has x and P in each other's place
-
-module _ (d x : ℕ) (D E : ℕ → ℕ) (byte : D d < 256) (low : x ≤ d) (others : (i : ℕ) → i < d → i ≢ x → E i ≡ D i) (here : x < d → E x ≡ D d) where
-  alone_here : recovered d x x D x ≡ made d (data_solved d x x D) x
-  alone_here = recovered-named d x x D x (inl refl)
-
-  alone_sum : parity_p d E ≡ recovered d x x D x
-  alone_sum = ⊎_elim of_data (λ h. of_p (omega arith)) (less_or_not x d)
-    where
-      of_data : x < d → parity_p d E ≡ recovered d x x D x
-      of_data h =
-          unfold parity_p one in (
-          sum-without-one one E d x h
-          ∙ ap₂ bit_xor (ap (times 1) (here h) ∙ one_times (D d) byte) (sum_ext one (without x x E) (without x x D) d (λ i p. without_ext x x E D i (λ u _. others i p u))))
-          ∙ sym (alone_here ∙ made_data d (data_solved d x x D) x h ∙ filled_same d x D x refl ∙ unfold from_p rest_p parity_p one in solved-same d x x D refl)
-
-      of_p : x ≡ d → parity_p d E ≡ recovered d x x D x
-      of_p e =
-          parity_p_ext d E (data_solved d x x D) (λ i p. others i p (λ f. omega arith) ∙ sym (filled_other d x D i (λ f. omega arith)))
-          ∙ sym (alone_here ∙ ap (made d (data_solved d x x D)) e ∙ made_p d (data_solved d x x D))
-
-module _ (d k b x : ℕ) (l ns : List ℕ) (ok : Whole d k b (length l)) (low : x ≤ d) (long : length ns ≡ 18) (table : Tabled (d + k) in_order ns) where
-  swapped : List ℕ
-  swapped = set (set ns x d) d x
-
-  at_p : get_or swapped d 0 ≡ x
-  unfolding swapped
-  at_p = get_or-set_same (set ns x d) d x 0 (omega (arith, length-set ns x d, long, ok.data_most))
-
-  at_x : x < d → get_or swapped x 0 ≡ d
-  unfolding swapped
-  at_x h = get_or-set_other (set ns x d) d x x 0 (λ e. omega arith) ∙ get_or-set_same ns x d 0 (omega (arith, long, ok.data_most))
-
-  at_other : (i : ℕ) → i < d → i ≢ x → get_or swapped i 0 ≡ i
-  unfolding swapped
-  at_other i h ne =
-      get_or-set_other (set ns x d) d i x 0 (λ e. omega arith) ∙ get_or-set_other ns x i d 0 ne ∙ table i (omega arith) ∙ in_order_lem i
-
-  -- a role of data and P is x, other data, or P
-  by_place : (A : ℕ → Type 0) → (x < d → A x) → ((i : ℕ) → i < d → i ≢ x → A i) → A d → (i : ℕ) → i < d + 1 → A i
-  by_place A ax ao ad i h =
-      ⊎_elim (λ p. ⊎_elim (λ e. subst A (sym e) (ax (omega arith))) (λ ne. ao i p ne) (same_or_not i x)) (λ p. let e : i ≡ d = omega arith in subst A (sym e) ad) (less_or_not i d)
-
-  at_most : (i : ℕ) → i < d + 1 → get_or swapped i 0 ≤ d
-  at_most = by_place (λ i. get_or swapped i 0 ≤ d) (λ h. omega (arith, at_x h)) (λ i h ne. omega (arith, at_other i h ne)) (omega (arith, at_p, low))
-
-  -- the table leads back, so that no two of its numbers are equal
-  at_back : (i : ℕ) → i < d + 1 → get_or swapped (get_or swapped i 0) 0 ≡ i
-  at_back =
-      by_place (λ i. get_or swapped (get_or swapped i 0) 0 ≡ i) (λ h. ap place_of (at_x h) ∙ at_p) (λ i h ne. ap place_of (at_other i h ne) ∙ at_other i h ne)
-      (ap place_of at_p ∙ ⊎_elim at_x (λ h. let e : x ≡ d = omega arith in ap place_of e ∙ at_p ∙ e) (less_or_not x d))
-    where
-      place_of : ℕ → ℕ
-      place_of i = get_or swapped i 0
-
-  pub alone_placed : Placed (d + 1) b (length l) (set (set ns x d) d x)
-  unfolding swapped
-  alone_placed =
-      record {
-        long = omega (arith, length-set (set ns x d) d x, length-set ns x d, long, ok.data_most);
-        within = λ i h. fits (get_or swapped i 0) (d + k) b l ok.size_is (omega (arith, at_most i h, ok.parity-least));
-        own = λ i m h g ne e. ne (sym (at_back i h) ∙ ap (λ (z : ℕ). get_or swapped z 0) e ∙ at_back m g);
-      }
-
-  pub alone_put : (n : List ℕ) → ((j : ℕ) → get_or l j 0 < 256) → n ≡ parity_made (numbered (set (set ns x d) d x)) d 1 b l → n ≡ each_column (recovered d x x) (d + k) b l
-  unfolding swapped
-  alone_put n bytes en =
-      en ∙ unfold parity_made in ap₂ (λ (m : ℕ) (w : List ℕ). put b m w l) p_is_x (gen_ext b (by_column (parity_of 0 d) (numbered swapped) b l) (by_column value in_order b l) (λ j q. cell j))
-      ∙ put-column (d + k) b l ok.size_is value x (omega (arith, low, ok.parity-least))
-      ∙ changed_ext (replaced x value) (recovered d x x) (d + k) b l (λ j i q p. each (λ m. byte_of b l m j) i)
-    where
-      value : (ℕ → ℕ) → ℕ
-      value D = recovered d x x D x
-
-      p_is_x : numbered swapped (d + 0) ≡ x
-      p_is_x = unfold numbered in (let z : d + 0 ≡ d = omega arith in ap (λ (i : ℕ). get_or swapped i 0) z ∙ at_p)
-
-      cell : (j : ℕ) → by_column (parity_of 0 d) (numbered swapped) b l j ≡ by_column value in_order b l j
-      cell j = unfold by_column column_at numbered in_order parity_of weight_in parity_p in (
-          alone_sum d x (λ i. byte_of b l i j) (λ i. byte_of b l (get_or swapped i 0) j) (unfold byte_of in bytes (d * b + j)) low
-          (λ i h ne. ap (λ (m : ℕ). byte_of b l m j) (at_other i h ne)) (λ h. ap (λ (m : ℕ). byte_of b l m j) (at_x h)))
-
-      each : (D : ℕ → ℕ) (i : ℕ) → replaced x value D i ≡ recovered d x x D i
-      each D i =
-          ⊎_elim (λ e. replaced_here x value D i e ∙ ap (recovered d x x D) (sym e)) (λ ne. replaced_other x value D i ne ∙ sym (recovered_other d x x D i ne ne)) (same_or_not i x)
-
--- data x recovered alone, where Q is missing too; and P made
-pub alone_data : (d r b x y : ℕ) (l n : List ℕ) → x < d → (x ≡ y) ⊎ (d < y) → n ≡ each_column (recovered d x x) r b l → n ≡ each_column (replaced x (solved d x y)) r b l
-alone_data d r b x y l n hx way e =
-    e ∙ changed_ext (recovered d x x) (replaced x (solved d x y)) r b l (λ j i q p. each (λ m. byte_of b l m j) i)
-  where
-    each : (D : ℕ → ℕ) (i : ℕ) → recovered d x x D i ≡ replaced x (solved d x y) D i
-    each D i =
-        ⊎_elim
-        (λ f. recovered-named d x x D i (inl f) ∙ made_data d (data_solved d x x D) i (omega arith) ∙ filled_same d x D i f ∙ unfold from_p in (solved-same d x x D refl ∙ by_p d x y D way)
-        ∙ sym (replaced_here x (solved d x y) D i f))
-        (λ ne. recovered_other d x x D i ne ne ∙ sym (replaced_other x (solved d x y) D i ne))
-        (same_or_not i x)
-
-pub alone_p : (d r b : ℕ) (l n : List ℕ) → n ≡ each_column (recovered d d d) r b l → n ≡ each_column (replaced d (parity_p d)) r b l
-alone_p d r b l n e = e ∙ changed_ext (recovered d d d) (replaced d (parity_p d)) r b l (λ j i q p. each (λ m. byte_of b l m j) i)
-  where
-    each : (D : ℕ → ℕ) (i : ℕ) → recovered d d d D i ≡ replaced d (parity_p d) D i
-    each D i =
-        ⊎_elim
-        (λ f. recovered-named d d d D i (inl f) ∙ ap (made d (data_solved d d d D)) f ∙ made_p d (data_solved d d d D)
-        ∙ parity_p_ext d (data_solved d d d D) D (λ m p. filled_other d d D m (λ g. omega arith)) ∙ sym (replaced_here d (parity_p d) D i f))
-        (λ ne. recovered_other d d d D i ne ne ∙ sym (replaced_other d (parity_p d) D i ne))
-        (same_or_not i d)
-
--- data x recovered alone and confirmed
-pub alone_confirmed : (d r b x : ℕ) (l n : List ℕ) → x < d → n ≡ each_column (replaced x (solved d x x)) r b l → n ≡ each_column (recovered d x x) r b l
-alone_confirmed d r b x l n hx e = e ∙ sym (alone_data d r b x x l (each_column (recovered d x x) r b l) hx (inl refl) refl)
+-- x as the sum of what is missing, where it comes from P
+pub data_from_p : (d r b x y : ℕ) (l n : List ℕ) → (x ≡ y) ⊎ (d < y) → n ≡ each_column (replaced x (rest_p d x x)) r b l → n ≡ each_column (replaced x (solved d x y)) r b l
+unfolding replaced
+data_from_p d r b x y l n way e =
+    e ∙ changed_ext (replaced x (rest_p d x x)) (replaced x (solved d x y)) r b l (λ j i p q. ap (λ (v : ℕ). pick (eqb i x) v (byte_of b l i j)) (by_p d x y (λ k. byte_of b l k j) way))
 
 -- the stripe after the step of the data: two blocks of it missing, one, none
 module _ (d k b x y : ℕ) (l : List ℕ) where
@@ -534,50 +440,3 @@ pub after_steps : (d k b x y : ℕ) (l m n : List ℕ) → m ≡ each_column (da
 after_steps d k b x y l m n em en =
     en ∙ ap (each_column (parity_step d x y) (d + k) b) em ∙ changed_twice (data_step d x y) (parity_step d x y) (d + k) b l (parity_local d x y (d + k) (omega arith))
     ∙ changed_ext (λ D. parity_step d x y (data_step d x y D)) (recovered d x y) (d + k) b l (λ j i q p. steps_recover d x y (λ m. byte_of b l m j) i)
-
--- ---- whether the parities disagree
-
-module _ (d k b x y : ℕ) (l : List ℕ) where
-  -- tested: the parities disagree where Q does not confirm x; by way of a table and an empty log
-  pub disputed_by : (ns : List ℕ) (r : Bool) → 1 < k → x ≡ y → x < d → Tabled (d + k) in_order ns → r ≡ every b (by_test (confirms d x) (numbered ns) b (l ++ []))
-      → r ≡ not (disputed d k b x y l)
-  unfolding disputed by_test
-  disputed_by ns r two e h t er =
-      er ∙ every_ext b (λ j. confirms d x (column_at (numbered ns) b (l ++ []) j)) (λ j. confirms d x (λ i. byte_of b l i j)) (λ j p. confirms_ext d x (column_at (numbered ns) b (l ++ []) j) (λ i. byte_of b l i j) h (λ i q ne. cell i j (omega arith)))
-      ∙ twice_not (every b (λ j. confirms d x (λ i. byte_of b l i j)))
-      ∙ ap (λ (s : Bool). not (s && not (every b (λ j. confirms d x (λ i. byte_of b l i j)))))
-      (sym (ap₂ (λ (s t : Bool). s && t) (lt-ltb 1 k two) (ap₂ (λ (s t : Bool). s && t) (eq-eqb x y e) (lt-ltb x d h))))
-    where
-      twice_not : (s : Bool) → s ≡ not (not s)
-      twice_not true = refl
-      twice_not false = refl
-
-      cell : (i j : ℕ) → i < d + k → column_at (numbered ns) b (l ++ []) j i ≡ byte_of b l i j
-      cell i j q = unfold column_at numbered in ap₂ (λ (m : List ℕ) (n : ℕ). byte_of b m n j) (append-nil l) (t i q ∙ in_order_lem i)
-
-  -- not tested
-  pub undisputed_one : k ≤ 1 → true ≡ not (disputed d k b x y l)
-  unfolding disputed
-  undisputed_one h = ap (λ (s : Bool). not ((s && (eqb x y && ltb x d)) && not (every b (λ j. confirms d x (λ i. byte_of b l i j))))) (sym (le-ltb 1 k h))
-
-  pub undisputed_two : (x ≡ y → ⊥) ⊎ (d ≤ x) → true ≡ not (disputed d k b x y l)
-  unfolding disputed
-  undisputed_two =
-      ⊎_elim
-      (λ ne. sym (none (ltb 1 k) (eqb x y && ltb x d) (every b (λ j. confirms d x (λ i. byte_of b l i j))) (ap (λ (s : Bool). s && ltb x d) (ne_eqb x y ne))))
-      (λ h. sym (none (ltb 1 k) (eqb x y && ltb x d) (every b (λ j. confirms d x (λ i. byte_of b l i j))) (second (eqb x y) (ltb x d) (le-ltb x d h))))
-    where
-      second : (s t : Bool) → t ≡ false → (s && t) ≡ false
-      second true t e = e
-      second false t e = refl
-
-      none : (s t u : Bool) → t ≡ false → not ((s && t) && not u) ≡ true
-      none true t u e = ap (λ (v : Bool). not (v && not u)) e
-      none false t u e = refl
-
--- the same member named twice
-pub alone_named : (d k b x y : ℕ) (l n : List ℕ) (r : Bool) → x ≡ y
-    → (r ≡ not (disputed d k b x x l)) × ((r ≡ true → n ≡ each_column (recovered d x x) (d + k) b l) × (r ≡ false → n ≡ l))
-    → (r ≡ not (disputed d k b x y l)) × ((r ≡ true → n ≡ each_column (recovered d x y) (d + k) b l) × (r ≡ false → n ≡ l))
-alone_named d k b x y l n r e =
-    subst (λ (z : ℕ). (r ≡ not (disputed d k b x z l)) × ((r ≡ true → n ≡ each_column (recovered d x z) (d + k) b l) × (r ≡ false → n ≡ l))) e

@@ -3,7 +3,7 @@
 -- there are d + k roles. All of it is about one column of the stripe: a byte of each of its blocks, from the same place in each. D i is the byte of
 -- role i.
 -- Assumes nothing.
-use Rattle.std.specs.Prelude.{Bool, true, false, ◌&&◌, ◌⊎◌, ◌≡◌, ℕ, zero, suc, ◌+◌, ◌≤◌, ◌<◌, eqb, ltb}
+use Rattle.std.specs.Prelude.{Bool, true, false, ◌⊎◌, ◌≡◌, ℕ, zero, suc, ◌+◌, ◌≤◌, ◌<◌, eqb, ltb}
 use Rattle.std.specs.Int.Bits.{bit_xor}
 use Rattle.field.specs.Field.{pow2, times, inverse}
 
@@ -11,11 +11,6 @@ use Rattle.field.specs.Field.{pow2, times, inverse}
 unfoldable pub pick : Bool → ℕ → ℕ → ℕ
 pick true a c = a
 pick false a c = c
-
--- whether each number below n passes the test
-unfoldable pub every : ℕ → (ℕ → Bool) → Bool
-every zero t = true
-every (suc n) t = every n t && t n
 
 -- the sum of w i times D i over the first n roles
 unfoldable pub sum : (ℕ → ℕ) → (ℕ → ℕ) → ℕ → ℕ
@@ -91,9 +86,3 @@ data_solved d x y D i = pick (eqb i x) (solved d x y D) (pick (eqb i y) (solved 
 -- the column after recovery: a missing P or Q is made of the data, and a role that is not missing stays
 unfoldable pub recovered : ℕ → ℕ → ℕ → (ℕ → ℕ) → ℕ → ℕ
 recovered d x y D i = pick (eqb i x) (made d (data_solved d x y D) i) (pick (eqb i y) (made d (data_solved d x y D) i) (D i))
-
--- ---- the second parity
-
--- Where data x alone is missing it comes from P. Q, which is not used for it, confirms it where it is the Q of the data with x recovered.
-unfoldable pub confirms : ℕ → ℕ → (ℕ → ℕ) → Bool
-confirms d x D = eqb (D (d + 1)) (parity_q d (data_solved d x x D))

@@ -1,26 +1,25 @@
 // Parity over stripes of d data blocks and two parities, P and Q, or one, P, of b bytes each: made,
 // and missing blocks recovered from the others.
 //
-// The two calls for C, `stripe_make_parity` and `stripe_recover`, take one stripe in a buffer of
-// its own, in the order data, P and, of two parities, Q, and refuse what they cannot work on. Below
-// them, for arrays that are kept by member: `parity` makes parity where the blocks stand, `solve`
-// recovers a missing block from the others, each in the array or in a log, `blocks` copies blocks
-// by number and `places` knows where a block stands. The contracts cite `specs/`: `Parity.antt` has
-// the mathematics, `Calls.antt` what the two calls answer and leave.
+// The two calls, `stripe_make_parity` and `stripe_recover`, take one stripe in a buffer of its own,
+// in the order data, P and, of two parities, Q, and refuse what they cannot work on; the crate
+// `stripe_c` exports them for C. Below them, for arrays that are kept by member: `parity` makes
+// parity where the blocks stand, `solve` recovers a missing block from the others, each in the array
+// or in a log, `blocks` copies blocks by number and `places` knows where a block stands. The
+// contracts cite `specs/`: `Parity.antt` has the mathematics, `Calls.antt` what the two calls answer
+// and leave.
 #![tactic(auto)]
 
 pub mod blocks;
-mod columns;
 pub mod parity;
 pub mod places;
-mod product;
 mod recover;
 mod rows;
 pub mod solve;
 mod weights;
 
 ghost use Rattle.std.specs.Prelude.{◌≡◌, length};
-ghost use Rattle.stripe.specs.Calls.{make_code, make_buffer, recover_rows, recover_code, recover_buffer, bad_measures, members_code, bad_member, too_many};
+ghost use Rattle.stripe.specs.Calls.{make_code, make_buffer, recover_code, recover_buffer, bad_measures, members_code, bad_member, too_many};
 
 // Makes the parities of the stripe, and answers 0. Answers 1 where d is not 2 to 16, parities not 1
 // or 2, or b not 1 to 4,096, else 2 where the stripe is not d + parities blocks long, and stores
@@ -38,27 +37,23 @@ pub fn stripe_make_parity(d: u32, parities: u32, b: u32, stripe: &mut [u8]) -> u
 
 // Recovers the members x and y of the stripe from the others, and answers 0; the same member named
 // twice is one missing member. Answers 1 and 2 as stripe_make_parity does, else 6 where x or y is
-// not below d + parities, else 11 where x and y differ and there is one parity, else 17 where there
-// are two parities, x and y are one data block, and P and Q disagree about it, and stores nothing.
+// not below d + parities, else 11 where x and y differ and there is one parity, and stores nothing.
 pub fn stripe_recover(d: u32, parities: u32, b: u32, x: u32, y: u32, stripe: &mut [u8]) -> u32
-    ensures value { result ≡ recover_code d parities b x y stripe.old }
+    ensures value { result ≡ recover_code d parities b x y (length stripe.old) }
     ensures stripe_after { stripe.new ≡ recover_buffer d parities b x y stripe.old }
 {
-    let code = recover_rows(d, parities, b, x, y, stripe.len());
-    if code != 0 {
-        return code;
+    let code = recover_code(d, parities, b, x, y, stripe.len());
+    if code == 0 {
+        recover::recover(
+            stripe,
+            d as usize,
+            parities as usize,
+            b as usize,
+            x as usize,
+            y as usize,
+        );
     }
-    if recover::recover(
-        stripe,
-        d as usize,
-        parities as usize,
-        b as usize,
-        x as usize,
-        y as usize,
-    ) {
-        return 0;
-    }
-    17
+    code
 }
 
 // What stripe_make_parity answers for a stripe of n bytes.
@@ -96,9 +91,9 @@ pub fn bad_measures(d: u32, parities: u32, b: u32) -> bool
     4096 < b
 }
 
-// What stripe_recover answers before it looks at the bytes of a stripe, of n bytes; 0 for none.
-fn recover_rows(d: u32, parities: u32, b: u32, x: u32, y: u32, n: usize) -> u32
-    ensures { result ≡ recover_rows d parities b x y n }
+// What stripe_recover answers for a stripe of n bytes.
+fn recover_code(d: u32, parities: u32, b: u32, x: u32, y: u32, n: usize) -> u32
+    ensures { result ≡ recover_code d parities b x y n }
 {
     let code = make_code(d, parities, b, n);
     if code != 0 {

@@ -2,12 +2,12 @@
 //
 // A stripe is taken 64 columns at a time, so that their sums are small while the data
 // blocks are added to them, from the last to the first: Q by Horner's rule, which takes a doubling a
-// block and no product. Where P alone is made the functions for it do so, which touch no other sum.
+// block and no product. With one parity the functions for P alone do it, which touch no other sum.
 ghost use Rattle.std.specs.Prelude.{◌≡◌, List, ℕ, ◌+◌, ◌*◌, ◌≤◌, ◌<◌, length};
 ghost use Rattle.stripe.specs.Places.{in_order, place, numbered, parity_made, parity_made_all};
 ghost use Rattle.stripe.specs.below.Tables.{Placed, Whole, Measures};
 ghost use Rattle.stripe.specs.Parity.{parity_p};
-ghost use Rattle.stripe.specs.below.Steps.{Starts, zeros, later, by_start, taken, plus, twice_plus, Spans, Disjoint, SumsAt, Partly};
+ghost use Rattle.stripe.specs.below.Steps.{Starts, zeros, later, by_start, taken, plus, twice_plus, PutRow, Spans, Disjoint, SumsAt, Partly};
 
 use super::{places, rows};
 
@@ -118,8 +118,8 @@ fn make_pq_at(array: &mut [u8], ns: &[usize], d: usize, b: usize)
     make_pq_columns(array, &starts, d, b);
 }
 
-// Makes P of the stripe whose data and P have the numbers of the table ns, and no other parity.
-pub fn make_p_at(array: &mut [u8], ns: &[usize], d: usize, b: usize)
+// Makes P of the stripe, with one parity, whose blocks have the numbers of the table ns.
+fn make_p_at(array: &mut [u8], ns: &[usize], d: usize, b: usize)
     requires d_bound { d ≤ 16 }
     requires le_b { 1 ≤ b }
     requires b_bound { b ≤ 4096 }
@@ -148,7 +148,7 @@ fn make_pq_columns(array: &mut [u8], starts: &[usize], d: usize, b: usize)
     }
 }
 
-// Makes P alone of the stripe whose data and P start at the offsets of the table starts.
+// Makes P of the stripe, with one parity, whose blocks start at the offsets of the table starts.
 fn make_p_columns(array: &mut [u8], starts: &[usize], d: usize, b: usize)
     requires b_bound { b ≤ 4096 }
     requires spans { Spans (d + 1) b (length array.old) starts.now }
@@ -178,11 +178,11 @@ fn make_pq_chunk(array: &mut [u8], starts: &[usize], d: usize, o: usize, w: usiz
     sums(array, starts, &mut p, &mut q, d, o, w);
     let atp = starts[d] + o;
     let atq = starts[d + 1] + o;
-    rows::put_row(array, atp, &p, w);
-    rows::put_row(array, atq, &q, w);
+    put_row(array, atp, &p, w);
+    put_row(array, atq, &q, w);
 }
 
-// The same of P alone.
+// The same of P alone, where there is one parity.
 fn make_p_chunk(array: &mut [u8], starts: &[usize], d: usize, o: usize, w: usize)
     requires w_bound { w ≤ 64 }
     requires spans { Spans (d + 1) (o + w) (length array.old) starts.now }
@@ -191,7 +191,7 @@ fn make_p_chunk(array: &mut [u8], starts: &[usize], d: usize, o: usize, w: usize
     let mut p = [0u8; 64];
     plain_sum(array, starts, &mut p, d, o, w);
     let atp = starts[d] + o;
-    rows::put_row(array, atp, &p, w);
+    put_row(array, atp, &p, w);
 }
 
 // Sums up columns o to o + w - 1 of P in p, whose first w bytes are 0.
@@ -254,6 +254,19 @@ fn next_row(src: &[u8], at: usize, p: &mut [u8], q: &mut [u8], w: usize)
         let v = src[at + j];
         p[j] = p[j] ^ v;
         q[j] = field::twice(q[j]) ^ v;
+        j += 1;
+    }
+}
+
+// Stores the first w bytes of row from at on.
+fn put_row(array: &mut [u8], at: usize, row: &[u8], w: usize)
+    requires w_in_bounds { at + w ≤ length array.old }
+    requires w_in_bounds_2 { w ≤ length row.now }
+    ensures { PutRow at w row.now array.old array.new }
+{
+    let mut j: usize = 0;
+    while j < w {
+        array[at + j] = row[j];
         j += 1;
     }
 }

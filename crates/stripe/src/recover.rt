@@ -1,93 +1,25 @@
 // Missing blocks of a stripe, recovered in the stripe's own buffer, of data and parities.
 //
-// One block of data and P is recovered where it stands, from the others of them; where a second
-// parity is there to confirm it, in a working block first. Two blocks, and Q, take a working block
-// too: 4,096 zero bytes, of which work is the first b. In the functions below, ns is the table of the
-// stripe's block numbers.
-ghost use Rattle.std.specs.Prelude.{◌≡◌, true, false, not, ◌||◌, ◌+◌, ◌≤◌, ◌<◌, eqb, length};
-ghost use Rattle.stripe.specs.Parity.{parity_q, Recoverable, rest_p, solved, recovered};
+// One working block of 4,096 zero bytes gathers the sum of a block before it is copied out. In the
+// functions below, work is its first b bytes and ns the table of the stripe's block numbers.
+ghost use Rattle.std.specs.Prelude.{◌≡◌, ◌||◌, ◌+◌, ◌≤◌, ◌<◌, eqb, length};
+ghost use Rattle.stripe.specs.Parity.{parity_p, parity_q, Recoverable, rest_p, solved, recovered};
 ghost use Rattle.stripe.specs.below.Tables.{Whole};
 ghost use Rattle.stripe.specs.below.Steps.{Workable, replaced, sum_of, data_step, of_sum, parity_step};
-ghost use Rattle.stripe.specs.Calls.{each_column, disputed};
+ghost use Rattle.stripe.specs.Calls.{each_column};
 
-use super::{blocks, columns, parity, places, solve};
+use super::{blocks, parity, places, rows, solve};
 
-// Recovers the members x and y of the stripe, unless the parities disagree, and tells whether it
-// did. Where it did not, the stripe is as it was.
-pub fn recover(stripe: &mut [u8], d: usize, parities: usize, b: usize, x: usize, y: usize) -> bool
+// Recovers the members x and y of the stripe.
+pub fn recover(stripe: &mut [u8], d: usize, parities: usize, b: usize, x: usize, y: usize)
     requires whole { Whole d parities b (length stripe.old) }
     requires x_bound { x < d + parities }
     requires y_bound { y < d + parities }
     requires recoverable { Recoverable parities x y }
-    ensures value { result ≡ not (disputed d parities b x y stripe.old) }
-    ensures stripe_after { result ≡ true → stripe.new ≡ each_column (recovered d x y) (d + parities) b stripe.old }
-    ensures stripe_unchanged { result ≡ false → stripe.new ≡ stripe.old }
+    ensures { stripe.new ≡ each_column (recovered d x y) (d + parities) b stripe.old }
 {
-    if x == y {
-        if x <= d {
-            return recover_alone(stripe, d, parities, b, x);
-        }
-    }
     let mut work = [0u8; 4096];
     recover_in(stripe, &mut work[..b], d, parities, b, x, y);
-    true
-}
-
-// The same where x alone is missing and is data or P.
-fn recover_alone(stripe: &mut [u8], d: usize, parities: usize, b: usize, x: usize) -> bool
-    requires whole { Whole d parities b (length stripe.old) }
-    requires x_le_d { x ≤ d }
-    ensures value { result ≡ not (disputed d parities b x x stripe.old) }
-    ensures stripe_after { result ≡ true → stripe.new ≡ each_column (recovered d x x) (d + parities) b stripe.old }
-    ensures stripe_unchanged { result ≡ false → stripe.new ≡ stripe.old }
-{
-    if 1 < parities {
-        if x < d {
-            let mut work = [0u8; 4096];
-            return recover_tested(stripe, &mut work[..b], d, parities, b, x);
-        }
-    }
-    recover_by_p(stripe, d, parities, b, x);
-    true
-}
-
-// Recovers data x, which alone is missing, where Q confirms it, and tells whether Q does.
-fn recover_tested(
-    stripe: &mut [u8],
-    work: &mut [u8],
-    d: usize,
-    parities: usize,
-    b: usize,
-    x: usize,
-) -> bool
-    requires whole { Whole d parities b (length stripe.old) }
-    requires work_len { length work.old ≡ b }
-    requires lt_parities { 1 < parities }
-    requires x_lt_d { x < d }
-    ensures value { result ≡ not (disputed d parities b x x stripe.old) }
-    ensures stripe_after { result ≡ true → stripe.new ≡ each_column (recovered d x x) (d + parities) b stripe.old }
-    ensures stripe_unchanged { result ≡ false → stripe.new ≡ stripe.old }
-{
-    let ns = places::own_numbers(d, parities);
-    let none = [0u8; 0];
-    if !solve::solve_tested(stripe, &none, d + parities, &ns, work, d, b, x) {
-        return false;
-    }
-    blocks::copy_block(work, 0, stripe, x, b);
-    true
-}
-
-// Recovers x, data or P, from the others of data and P, whose sum it is: as P is made, with x and P
-// in each other's place.
-fn recover_by_p(stripe: &mut [u8], d: usize, parities: usize, b: usize, x: usize)
-    requires whole { Whole d parities b (length stripe.old) }
-    requires x_le_d { x ≤ d }
-    ensures { stripe.new ≡ each_column (recovered d x x) (d + parities) b stripe.old }
-{
-    let mut ns = places::own_numbers(d, parities);
-    ns[x] = d;
-    ns[d] = x;
-    parity::make_p_at(stripe, &ns, d, b);
 }
 
 // Recovers the members x and y: the data first, then the parities among them, of the data.
@@ -163,7 +95,7 @@ fn recover_parity(
             parity::make_own_parity(stripe, d, parities, b);
             return;
         }
-        recover_by_p(stripe, d, parities, b, d);
+        make_p(stripe, work, ns, d, parities, b);
         return;
     }
     if names(x, y, d + 1) {
@@ -198,11 +130,23 @@ fn recover_one(
     ensures { stripe.new ≡ each_column (replaced x (solved d x y)) (d + parities) b stripe.old }
 {
     if solve::comes_from_p(d, x, y) {
-        recover_by_p(stripe, d, parities, b, x);
+        put_sum(stripe, work, ns, d, parities, b, x, x);
         return;
     }
     let none = [0u8; 0];
-    solve::solve(stripe, &none, d + parities, ns, work, d, b, x, y);
+    let mut products = [0u8; 258];
+    solve::solve(
+        stripe,
+        &none,
+        d + parities,
+        ns,
+        work,
+        &mut products,
+        d,
+        b,
+        x,
+        y,
+    );
     blocks::copy_block(work, 0, stripe, x, b);
 }
 
@@ -228,7 +172,8 @@ fn recover_two(
     split_sum(stripe, work, ns, d, parities, b, x, y);
 }
 
-// Puts the sum of the missing data x and y in y's place: P with the data that is there.
+// Puts the sum of the missing data, x and y or y alone where x is y, in y's place: P with the data
+// that is there.
 fn put_sum(
     stripe: &mut [u8],
     work: &mut [u8],
@@ -244,7 +189,7 @@ fn put_sum(
     ensures { stripe.new ≡ each_column (replaced y (rest_p d x y)) (d + parities) b stripe.old }
 {
     let none = [0u8; 0];
-    columns::gather_rest(stripe, &none, d + parities, ns, work, d, b, x, y);
+    solve::gather_rest(stripe, &none, d + parities, ns, work, d, b, x, y);
     blocks::copy_block(work, 0, stripe, y, b);
 }
 
@@ -268,9 +213,33 @@ fn split_sum(
         (each_column (replaced x (of_sum d x y)) (d + parities) b stripe.old) }
 {
     let none = [0u8; 0];
-    solve::solve_of_sum(stripe, &none, d + parities, ns, work, d, b, x, y);
+    let mut products = [0u8; 258];
+    solve::solve_of_sum(
+        stripe,
+        &none,
+        d + parities,
+        ns,
+        work,
+        &mut products,
+        d,
+        b,
+        x,
+        y,
+    );
     blocks::copy_block(work, 0, stripe, x, b);
-    blocks::add_block(work, stripe, y, b);
+    solve::add_block(stripe, &none, d + parities, ns[y], work, b);
+    blocks::copy_block(work, 0, stripe, y, b);
+}
+
+// Makes P of the data.
+fn make_p(stripe: &mut [u8], work: &mut [u8], ns: &[usize], d: usize, parities: usize, b: usize)
+    requires { Workable d parities b stripe.old work.old ns.now }
+    ensures { stripe.new ≡ each_column (replaced d (parity_p d)) (d + parities) b stripe.old }
+{
+    let none = [0u8; 0];
+    rows::clear_row(work, b);
+    solve::add_data(stripe, &none, d + parities, ns, work, d, b, d, d);
+    blocks::copy_block(work, 0, stripe, d, b);
 }
 
 // Makes Q of the data.
@@ -280,6 +249,6 @@ fn make_q(stripe: &mut [u8], work: &mut [u8], ns: &[usize], d: usize, parities: 
     ensures { stripe.new ≡ each_column (replaced (d + 1) (parity_q d)) (d + parities) b stripe.old }
 {
     let none = [0u8; 0];
-    columns::weigh(stripe, &none, d + parities, ns, work, d, b, d, d);
+    solve::gather_weighted(stripe, &none, d + parities, ns, work, d, b, d, d);
     blocks::copy_block(work, 0, stripe, d + 1, b);
 }

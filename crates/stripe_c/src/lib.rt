@@ -18,8 +18,7 @@ pub extern "C" fn stripe_make_parity(d: u32, parities: u32, b: u32, stripe: &mut
 
 // Recovers the members x and y of the stripe from the others, and answers 0; the same member named
 // twice is one missing member. Answers 1 and 2 as stripe_make_parity does, else 6 where x or y is
-// not below d + parities, else 11 where x and y differ and there is one parity, else 17 where there
-// are two parities, x and y are one data block, and P and Q disagree about it, and stores nothing.
+// not below d + parities, else 11 where x and y differ and there is one parity, and stores nothing.
 #[unsafe(no_mangle)]
 pub extern "C" fn stripe_recover(
     d: u32,
@@ -29,7 +28,7 @@ pub extern "C" fn stripe_recover(
     y: u32,
     stripe: &mut [u8],
 ) -> u32
-    ensures value { result ≡ recover_code d parities b x y stripe.old }
+    ensures value { result ≡ recover_code d parities b x y (length stripe.old) }
     ensures stripe_after { stripe.new ≡ recover_buffer d parities b x y stripe.old }
 {
     stripe::stripe_recover(d, parities, b, x, y, stripe)

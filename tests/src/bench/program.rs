@@ -34,13 +34,13 @@ pub struct Pieces {
     pub awaited: Range<usize>,
 }
 
-/// The file of the program: the one that KUMIROVE_BENCH names, or target/bin/bench of the repository.
+/// The file of the program: the one that KUMIROVE_BENCH names, or crates/bench/out/bench of the repository.
 pub fn file() -> Result<PathBuf, String> {
-    let made = || PathBuf::from(env!("CARGO_MANIFEST_DIR")).join("../target/bin/bench");
+    let made = || PathBuf::from(env!("CARGO_MANIFEST_DIR")).join("../crates/bench/out/bench");
     let file = env::var_os("KUMIROVE_BENCH").map_or_else(made, PathBuf::from);
     match file.is_file() {
         true => Ok(file),
-        false => Err(format!("there is no program {}: make it by rt check bench", file.display())),
+        false => Err(format!("there is no program {}: make it by tools/bench", file.display())),
     }
 }
 

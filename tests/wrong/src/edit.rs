@@ -76,12 +76,12 @@ impl Edit {
 /// The most edits that are tried together.
 const TOGETHER: usize = 8;
 
-/// Puts edits of one crate together in batches. Those of a batch change the program alone, each at a place of its own, whose proof
-/// stands in a file; which places are so is told.
-pub fn batches<'a>(edits: impl Iterator<Item = &'a Edit>, in_file: impl Fn(&Edit) -> bool) -> Vec<Vec<&'a Edit>> {
+/// Puts edits of one crate together in batches. Those of a batch change the program alone, each a function of its own; which places
+/// are functions is told.
+pub fn batches<'a>(edits: impl Iterator<Item = &'a Edit>, is_function: impl Fn(&Edit) -> bool) -> Vec<Vec<&'a Edit>> {
     let mut batches: Vec<Vec<&Edit>> = Vec::new();
     for edit in edits {
-        let joins = |edit: &Edit| edit.changes_code_alone() && in_file(edit);
+        let joins = |edit: &Edit| edit.changes_code_alone() && is_function(edit);
         let takes = |batch: &&mut Vec<&Edit>| {
             let fits = |other: &&Edit| other.at != edit.at && joins(other);
             batch.len() < TOGETHER && joins(edit) && batch.iter().all(fits)

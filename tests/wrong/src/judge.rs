@@ -1,25 +1,21 @@
 //! The judge: what the prover's log says of a wrong program.
 //!
-//! A program is refused as it must be where the log says `logic=not-proved`, the first error stands in the proof of the place
-//! that the edit names, and a fact fails there. These are no failed facts, and faults of the edit:
+//! A program is refused as it must be where the log ends in `logic=not-proved`, the first error is at the place that the edit names, and a
+//! fact fails there. The place of a function is what stands in the folder of its proof, and the goals that rt's `search` must prove for
+//! want of an answer; that of a file of laws is the file. These are no failed facts, and faults of the edit where there is nothing else:
 //!   - no `logic=` line: the compiler refused the program, and the prover never saw it;
-//!   - a first error elsewhere, or one that is a consequence (`was not admitted`);
-//!   - a first error of a proof that no longer fits the code: a name that is not there (`that can be named from here`,
-//!     `is not in scope`), a position that is not there (`has no field`), another number of variables in a loop (`this
-//!     pattern needs a function`) or of arguments (`more than`; but what a branch tests may be a function in one program and
-//!     not in the other), one need given for another (`tie.Need-` both expected and found), or an error in the declaration
-//!     `NAME-spec`, which only gathers the proofs of the needs;
-//!   - code of another shape (see `shape`), since a proof speaks of the code's calls, branches and needs by their positions.
+//!   - an error that is a consequence (`declarations that depend on`), or a function without a proof because one that it calls has none;
+//!   - an error of a proof that no longer fits the code: a name that is not there (`that can be named from here`, `is not in scope`), a
+//!     position that is not there (`has no field`), or another number of variables in a loop (`this pattern needs a function`).
 //!
-//! All else in the named proof is a failed fact, in whatever words: two types that differ, a fact of another sort than the
-//! proof uses, or a `search`, `omega` or `simp` that finds nothing. A function that is proved without a word has no proof file
-//! to misfit: its fact fails where the log says that there is `no proof` of it and which needs `search` does not close, and
-//! every error before that is a consequence.
+//! All else in the named proof is a failed fact, in whatever words: two types that differ, a fact of another sort than the proof uses, or
+//! a `search`, `omega` or `simp` that finds nothing. A goal that `search` does not prove is a failed fact where the function has no
+//! answer that misses its goal: such an answer could be the one that is wanted.
 
 /// What is to be said of a wrong program.
 #[derive(Clone, Debug, PartialEq)]
 pub enum Verdict {
-    /// The prover refuses it where it must; the start of the first error.
+    /// The prover refuses it where it must; the start of the first failed fact.
     Refused(String),
     /// The crate is proved with it.
     Accepted,
@@ -27,43 +23,33 @@ pub enum Verdict {
     Fault(String),
 }
 
-/// What must refuse an edit: a function or a file of laws, and the file that proves it, if it has one.
+/// What must refuse an edit: a function or a file of laws, and the folder or the file that proves it, if it has one.
 pub struct Place<'a> {
     pub at: &'a str,
     pub proof: Option<String>,
+}
+
+/// What a log has to say.
+struct Said<'a> {
+    /// The errors that are no consequences, in their order: the file below the crate, and the error with the lines that belong to it.
+    errors: Vec<(&'a str, String)>,
+    /// The goals that `search` did not prove: the function, by its path from the crate on, and what rt says.
+    open: Vec<(&'a str, &'a str)>,
 }
 
 /// Words of an error that say that a proof no longer fits the code.
 const MISFITS: [&str; 4] =
     ["that can be named from here", "is not in scope", "has no field `", "this pattern needs a function"];
 
-/// Words of an error that only follows from another.
-const CONSEQUENCE: &str = "was not admitted";
-
 /// The prover's verdict on the crate that a log is of: its last, since a library may be proved before.
 pub fn logic(log: &str) -> Option<&str> {
     log.lines().rev().find_map(|line| line.strip_prefix("logic="))
 }
 
-/// What a log of several edits tried together has to say of one of them: all but the errors at the others' places, and but the
-/// errors elsewhere that only follow from another. Each edit changes a function of its own, whose proof stands in a file and
-/// cites promises of other functions and not their code; so what is left is what a log of this edit alone would have.
-pub fn of_place(log: &str, crate_name: &str, own: &Place, all: &[Place]) -> String {
-    let is_at = |error: &str, place: &Place| {
-        let first = error.lines().next().unwrap_or_default();
-        place.proof.as_ref().is_some_and(|file| first.contains(&format!("/crates/{crate_name}/{file}:")))
-    };
-    let is_others = |error: &str| all.iter().any(|place| place.at != own.at && is_at(error, place));
-    let follows = |error: &str| all.len() > 1 && error.contains(CONSEQUENCE) && !is_at(error, own);
-    let found = errors(log);
-    let errors = found.iter().map(String::as_str).filter(|error| !is_others(error) && !follows(error));
-    let rest = log.lines().filter(|line| line.starts_with("fn ") || line.starts_with("logic="));
-    errors.chain(rest).flat_map(|text| [text, "\n"]).collect()
-}
-
-/// Judges a log: of which crate, and the place named.
-pub fn judge(log: &str, crate_name: &str, place: &Place) -> Verdict {
-    let (at, proof) = (place.at, place.proof.as_deref());
+/// Judges a log of edits tried together, by what it says of one of them: of which crate, the place of this edit and all places. Each edit
+/// changes a function of its own, and its proof cites promises of other functions and not their code; so what is at the other places is
+/// left out, and what is left is what a log of this edit alone would have.
+pub fn judge(log: &str, crate_name: &str, own: &Place, all: &[Place]) -> Verdict {
     let Some(logic) = logic(log) else {
         return Verdict::Fault("it does not reach the prover".to_string());
     };
@@ -73,97 +59,109 @@ pub fn judge(log: &str, crate_name: &str, place: &Place) -> Verdict {
     if !logic.starts_with("not-proved") {
         return Verdict::Fault(format!("the prover cannot tell: logic={logic}"));
     }
-    let (first, place) = match proof {
-        Some(file) => (errors(log).into_iter().next(), format!("/crates/{crate_name}/{file}:")),
-        None => (first_unproved(log), format!("fn {crate_name}::{at}: no proof: ")),
-    };
-    let Some(first) = first else { return Verdict::Fault("it has no error".to_string()) };
-    if !first.lines().next().is_some_and(|line| line.contains(&place)) {
-        return Verdict::Fault(format!("the first error is not at {at}"));
+    let said = said(log);
+    let is_others = |file: &str| all.iter().any(|place| place.at != own.at && place.has(file));
+    let mut errors = said.errors.iter().filter(|(file, _)| !is_others(file)).peekable();
+    if errors.peek().is_some_and(|(file, _)| !own.has(file)) {
+        return Verdict::Fault(format!("the first error is not at {}", own.at));
     }
-    match misfit(&first) {
-        Some(reason) => Verdict::Fault(reason),
-        None => Verdict::Refused(head(&first)),
+    let (misfits, facts): (Vec<_>, Vec<_>) =
+        errors.filter(|(file, _)| own.has(file)).partition(|(_, error)| is_misfit(error));
+    let function = format!("{crate_name}::{}", own.at);
+    let mut open = said.open.iter().filter(|(name, _)| *name == function);
+    match (facts.first(), misfits.first(), open.next()) {
+        (Some((_, fact)), ..) => Verdict::Refused(head(fact)),
+        (None, Some(_), _) => Verdict::Fault("the proof does not fit the code".to_string()),
+        (None, None, Some((_, goal))) => Verdict::Refused(head(goal)),
+        (None, None, None) => Verdict::Fault(format!("there is no error at {}", own.at)),
     }
 }
 
-/// The errors of a log in their order, each with the lines that belong to it.
-fn errors(log: &str) -> Vec<String> {
-    let mut errors: Vec<String> = Vec::new();
-    let mut inside = false;
+impl Place<'_> {
+    /// Whether a file, named below the crate, proves the place.
+    fn has(&self, file: &str) -> bool {
+        self.proof.as_ref().is_some_and(|proof| {
+            file.strip_prefix(proof.as_str()).is_some_and(|rest| rest.is_empty() || rest.starts_with('/'))
+        })
+    }
+}
+
+/// Reads a log. What stands at a function's goals comes right before the function's own line.
+fn said(log: &str) -> Said<'_> {
+    let mut said = Said { errors: Vec::new(), open: Vec::new() };
+    let (mut goals, mut inside) = (Vec::new(), false);
     for line in log.lines() {
-        if line.starts_with('/') && line.contains(": error: ") {
-            errors.push(line.to_string());
-            inside = true;
+        if let Some((file, _)) =
+            line.strip_prefix("./").filter(|line| line.contains(": error: ")).and_then(|line| line.split_once(':'))
+        {
+            inside = !follows(line);
+            if inside {
+                said.errors.push((file, line.to_string()));
+            }
         } else if inside && line.starts_with("  ") {
-            errors.last_mut().unwrap().extend(["\n", line]);
+            said.errors.last_mut().unwrap().1.extend(["\n", line]);
         } else {
             inside = false;
         }
+        if line.starts_with("note: src/") && line.contains(" it is not proved that ") {
+            goals.push(line);
+        } else if let Some((function, _)) = line.strip_prefix("fn ").and_then(|line| line.split_once(": ")) {
+            said.open.extend(goals.drain(..).map(|goal| (function, goal)));
+        }
     }
-    errors
+    said
 }
 
-/// The first error that is no consequence; where there is none, the first function that `search` alone had to prove.
-fn first_unproved(log: &str) -> Option<String> {
-    let own = errors(log).into_iter().find(|error| !error.contains(CONSEQUENCE));
-    own.or_else(|| log.lines().find(|line| line.starts_with("fn ") && line.contains(": no proof: ")).map(String::from))
+/// Whether an error only follows from another.
+fn follows(error: &str) -> bool {
+    let depends = ["declarations that depend on `", "declaration that depends on `"];
+    depends.iter().any(|words| error.contains(words)) || error.contains("was not admitted")
 }
 
-/// Why an error is no failed fact, if it is none.
-fn misfit(error: &str) -> Option<String> {
-    if error.starts_with("fn ") {
-        let closed = !error.contains("`search` does not close `");
-        return closed.then(|| "a proof is missing, and no need is said to fail".to_string());
-    }
-    let first = error.lines().next().unwrap_or_default();
-    let declaration = first.split('`').nth(1).unwrap_or_default();
-    if error.contains(CONSEQUENCE) {
-        return Some("the first error is only a consequence".to_string());
-    }
-    let many = error.contains("explicit argument") && error.contains(" more than `") && !error.contains("·own.");
-    if MISFITS.iter().any(|words| error.contains(words)) || many || declaration.ends_with("-spec") {
-        return Some("the proof does not fit the code".to_string());
-    }
-    let needs = error.contains("expected type `tie.Need-") && error.contains("but this has type `tie.Need-");
-    needs.then(|| "the proof of one need is given for another".to_string())
+/// Whether an error says that the proof does not fit the code, and not that a fact fails.
+fn is_misfit(error: &str) -> bool {
+    MISFITS.iter().any(|words| error.contains(words))
 }
 
-/// The start of an error, from its place in the crate on.
+/// The start of an error or of what is said of a goal, from its place in the crate on.
 fn head(error: &str) -> String {
     let line = error.lines().next().unwrap_or_default();
-    let start = line.find("/proofs/").map_or(0, |start| start + 1);
-    line[start..].chars().take(160).collect()
+    line.trim_start_matches("./").trim_start_matches("note: ").chars().take(160).collect()
 }
 
 #[cfg(test)]
 mod tests {
     use super::*;
 
-    const FILE: &str = "proofs/status/read_rows/Proof.antt";
+    const FILE: &str = "proofs/status/read_rows/Answers.antt";
+    const FOLDER: &str = "proofs/status/read_rows";
     const PROVED: &str = "logic=proved functions=148";
-    const NOT: &str = "logic=not-proved functions=148";
+    const NOT: &str = "logic=not-proved";
 
     /// Judges a log with one error in the file that is named, and with the verdict given.
     fn judged(error: &str, logic: &str) -> Verdict {
-        let log = format!(
-            "/w/crates/shelf/{FILE}:45:5: note: large solution\n/w/crates/shelf/{FILE}:45:5: error: {error}\n{logic}"
-        );
-        judge(&log, "shelf", &place("status::read_rows", Some(FILE)))
+        let log = format!("./{FILE}:45:5: note: large solution\n./{FILE}:45:5: error: {error}\n{logic}");
+        alone(&log, &place("status::read_rows", Some(FOLDER)))
+    }
+
+    /// Judges a log of one edit.
+    fn alone(log: &str, place: &Place) -> Verdict {
+        judge(log, "shelf", place, std::slice::from_ref(place))
     }
 
     /// A place.
-    fn place<'a>(at: &'a str, file: Option<&str>) -> Place<'a> {
-        Place { at, proof: file.map(String::from) }
+    fn place<'a>(at: &'a str, proof: Option<&str>) -> Place<'a> {
+        Place { at, proof: proof.map(String::from) }
     }
 
     #[test]
     fn facts_fail() {
         for error in [
             "`returns-3`: computed as far as they go, the two types differ only where one has `0` (expected) and the other has `16`",
-            "`returns-3`: expected type `2 ≤ c .result`, but this has type `3 ≤ c .result`",
+            "`returns-3`: expected type `2 ≤ c.result`, but this has type `3 ≤ c.result`",
             "`cast-t5`: `search`: no proof of `Fits w8` was found",
-            "`returns`: this is applied to an argument but has type `_<_`\n  this call writes 1 explicit argument more than `Then1·own.taken` takes",
+            "`sub`: `omega`: the goal does not follow from what it read. All of that holds, and the goal fails, at `d` = 0",
+            "`a`: `goal.a`: module `Goals` has no `a` that can be named from here\n./proofs/status/read_rows/Invariants.antt:2:1: error: `b`: no",
         ] {
             assert!(matches!(judged(error, NOT), Verdict::Refused(_)), "{error}");
         }
@@ -172,13 +170,12 @@ mod tests {
     #[test]
     fn misfits_are_faults() {
         for error in [
-            "`a`: `tie.Need-a`: module `read_rows.Tie` has no `Need-a` that can be named from here",
-            "`returns-2`: record `Lts.After-log-failed` has no field `array-failed`",
+            "`a`: `goal.a`: module `Rattle.shelf.proofs.read_rows.Goals` has no `a` that can be named from here",
+            "`returns-2`: record `Lts.After-log-failed`\n  has no field `array-failed`",
             "`returns`: `value-emptyy` is not in scope; did you mean `value-empty`?",
-            "`Inv-loop`: this pattern needs a function (or path) type to bind, but the signature at this point is `Type 0`",
-            "`read-rows-spec`: expected type `Lts.Closed`\n  but this has type `tie.Need-returns-4 Inv-loop → Lts.Closed`",
-            "`again`: expected type `tie.Need-sub-value`, but this has type `tie.Need-mul-value`",
-            "`returns`: `few` was not admitted (it has holes or undetermined implicits, or was rejected)",
+            "`loop`: this pattern needs a function (or path) type to bind, but the signature at this point is `Type 0`",
+            "3 declarations that depend on `few`, which was rejected, were not checked: a, b, c",
+            "1 declaration that depends on `few`, which was not admitted, was not checked: a",
         ] {
             assert!(matches!(judged(error, NOT), Verdict::Fault(_)), "{error}");
         }
@@ -188,39 +185,47 @@ mod tests {
     fn other_logs() {
         assert_eq!(judged("", PROVED), Verdict::Accepted);
         assert!(matches!(judged("", "error[unknown-name]"), Verdict::Fault(_)));
-        let elsewhere = format!("/w/crates/shelf/proofs/x/Proof.antt:1:1: error: `returns`: two types differ\n{NOT}");
-        assert!(matches!(judge(&elsewhere, "shelf", &place("status::read_rows", Some(FILE))), Verdict::Fault(_)));
+        for file in ["proofs/x/Answers.antt", "proofs/status/read_rows_too/Answers.antt", "proofs/status.antt"] {
+            let log = format!("./{file}:1:1: error: `returns`: two types differ\n./{FILE}:1:1: error: `a`: no\n{NOT}");
+            assert!(matches!(alone(&log, &place("status::read_rows", Some(FOLDER))), Verdict::Fault(_)), "{file}");
+        }
+        let laws = format!("./proofs/lent/Laws.antt:9:1: error: `law`: two types differ\n{NOT}");
+        assert!(matches!(alone(&laws, &place("lent::Laws", Some("proofs/lent/Laws.antt"))), Verdict::Refused(_)));
     }
 
     #[test]
-    fn functions_without_a_proof() {
-        let after = format!("/w/crates/shelf/{FILE}:1:1: error: `read-rows-spec`: `close` was not admitted\n");
-        let fails = "fn shelf::either: no proof: expected `either-spec` in F; `search` does not close `returns`\n";
-        let log = format!("{after}{fails}{NOT}");
-        assert!(matches!(judge(&log, "shelf", &place("either", None)), Verdict::Refused(_)));
-        assert!(matches!(judge(&log, "shelf", &place("both", None)), Verdict::Fault(_)));
-        assert!(matches!(judge(&log, "shelf", &place("status::read_rows", Some(FILE))), Verdict::Fault(_)));
+    fn goals_without_an_answer() {
+        let open = "note: src/lib.rt:10:1: it is not proved that what the function ensures holds when it returns (`returns`)\n\
+            note: a goal may be false even if its line does not say so\n\
+            fn shelf::either: no proof: expected answers in ./proofs/either/Answers.antt; `search` did not prove `returns`\n\
+            fn shelf::both: no proof: it calls `shelf::either`, which is not proved\n";
+        let log = format!("{open}{NOT}");
+        assert!(matches!(alone(&log, &place("either", None)), Verdict::Refused(_)));
+        assert!(matches!(alone(&log, &place("both", None)), Verdict::Fault(_)));
+        let misses = format!(
+            "./proofs/either/Answers.antt:2:1: error: `a`: `Goals` has no `a` that can be named from here\n{log}"
+        );
+        assert!(matches!(alone(&misses, &place("either", Some("proofs/either"))), Verdict::Fault(_)));
     }
 
     #[test]
     fn edits_tried_together() {
-        let error =
-            |file: &str, words: &str| format!("/w/crates/shelf/{file}:9:1: error: `returns`: {words}\n  more\n");
-        let [x, caller, z] = ["proofs/x/Proof.antt", "proofs/y/Proof.antt", "proofs/z/Proof.antt"];
+        let error = |file: &str, words: &str| format!("./{file}/Answers.antt:9:1: error: `returns`: {words}\n  more\n");
+        let [x, caller, z] = ["proofs/x", "proofs/y", "proofs/z"];
         let all =
-            [place("x", Some(x)), place("status::read_rows", Some(FILE)), place("z", Some(z)), place("w", Some("w"))];
+            [place("x", Some(x)), place("status::read_rows", Some(FOLDER)), place("z", Some(z)), place("w", None)];
+        let follows = "1 declaration that depends on `x_met`, which was rejected, was not checked: a";
         let log = [
             &error(x, "two types differ"),
-            &error(caller, "`x-spec` was not admitted"),
-            &error(FILE, "two types differ"),
-            &error(z, "`x-spec` was not admitted"),
+            &error(caller, follows),
+            &error(FOLDER, "two types differ"),
+            &error(z, follows),
             NOT,
         ]
         .concat();
-        let judged = |place: &Place, all: &[Place]| judge(&of_place(&log, "shelf", place, all), "shelf", place);
-        let refused = |place: &Place| matches!(judged(place, &all), Verdict::Refused(_));
+        let refused = |place: &Place| matches!(judge(&log, "shelf", place, &all), Verdict::Refused(_));
         assert_eq!(all.each_ref().map(refused), [true, true, false, false]);
-        assert!(matches!(judged(&all[0], &all[..1]), Verdict::Refused(_)));
-        assert!(matches!(judged(&all[1], &all[1..2]), Verdict::Fault(_)));
+        assert!(matches!(judge(&log, "shelf", &all[0], &all[..1]), Verdict::Refused(_)));
+        assert!(matches!(judge(&log, "shelf", &all[1], &all[1..2]), Verdict::Fault(_)));
     }
 }

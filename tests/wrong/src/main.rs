@@ -1,18 +1,19 @@
 //! The runner of wrong programs. Each file edits/CRATE/LABEL.edit makes a wrong program out of a crate; the prover must refuse it
-//! at the place that the file names. The edits are tried in copies of the crates, over rt's incremental folders, several of them
-//! together where each changes a function of its own, and undone.
+//! at the place that the file names. The edits are tried in copies of the crates, over what rt kept there of the check before, several of
+//! them together where each changes a function of its own, and undone.
 //! Words: the repository, a folder to work in, and texts of which an edit's CRATE/LABEL must have one; without any, all edits
 //! are tried. With `propose FILE` for those texts, edits of one source file are printed instead.
 
 mod copy;
 mod edit;
 mod judge;
+mod names;
 mod propose;
-mod shape;
 
 use copy::Copy;
-use edit::Edit;
+use edit::{Edit, Texts};
 use judge::{Place, Verdict};
+use names::Listed;
 use std::collections::BTreeMap;
 use std::path::Path;
 use std::process::ExitCode;
@@ -46,19 +47,19 @@ fn run(root: &Path, work: &Path, filters: &[String]) -> Result<bool, String> {
     let crates = by_count(&edits);
     let jobs = thread::available_parallelism().map_or(1, |jobs| jobs.get().min(2));
     let first = Copy::make(root, work.join("0"))?;
-    first.prove_libraries(&crates)?;
-    let codes = crates.iter().map(|name| Ok((name.as_str(), first.code(name)?))).collect::<Result<_, String>>()?;
+    crates.iter().try_for_each(|name| first.must_be_proved(name))?;
+    let listed: Unchanged =
+        crates.iter().map(|name| Ok((name.as_str(), first.names(name)?))).collect::<Result<_, String>>()?;
     let mut copies = vec![first];
     for number in 1..jobs.min(edits.len()) {
         copies.push(copies[0].twin(work.join(number.to_string()))?);
     }
-    warm_up(&copies, &crates)?;
     let warm = began.elapsed().as_secs_f64();
-    let in_file = |edit: &Edit| copies[0].proof_of(&edit.crate_name, &edit.at).is_some();
+    let is_function = |edit: &Edit| listed[edit.crate_name.as_str()].of(&edit.crate_name, &edit.at).is_some();
     let queue =
-        crates.iter().flat_map(|name| edit::batches(edits.iter().filter(|edit| edit.crate_name == *name), in_file));
+        crates.iter().flat_map(|name| edit::batches(edits.iter().filter(|edit| edit.crate_name == *name), is_function));
     let tried = each(queue, &copies, |copy, batch| {
-        let tried = try_batch(copy, &batch, &codes);
+        let tried = try_batch(copy, &batch, &listed);
         (!filters.is_empty()).then(|| tried.iter().for_each(|tried| println!("{}", line(tried))));
         tried
     });
@@ -66,16 +67,6 @@ fn run(root: &Path, work: &Path, filters: &[String]) -> Result<bool, String> {
     let ends = each(copies.iter(), &copies, |_, copy| crates.iter().try_for_each(|name| copy.must_be_proved(name)));
     let well = report(&crates, &tried, began.elapsed().as_secs_f64(), warm);
     ends.into_iter().collect::<Result<(), _>>().map(|()| well)
-}
-
-/// Has each crate checked once in one of the copies, so that rt answers of an edit in seconds, and hands what rt keeps of that on
-/// to the others. Two rt in one copy would get in each other's way.
-fn warm_up(copies: &[Copy], crates: &[String]) -> Result<(), String> {
-    for warmed in each(crates.iter(), copies, |copy, name| copy.must_be_proved(name).map(|()| (copy, name))) {
-        let (from, name) = warmed?;
-        copies.iter().try_for_each(|to| to.take_warmth(from, name))?;
-    }
-    Ok(())
 }
 
 /// The crates that have edits, those with the most first: they take the longest.
@@ -107,12 +98,15 @@ fn each<'a, T: Send, R: Send>(
     done.into_inner().unwrap()
 }
 
+/// What rt lists of each crate, unchanged.
+type Unchanged<'a> = BTreeMap<&'a str, Listed>;
+
 /// Tries a batch of edits of one crate together. Those that are not refused then as they must be are tried once more, alone.
-fn try_batch<'a>(copy: &Copy, batch: &[&'a Edit], codes: &BTreeMap<&str, String>) -> Vec<Tried<'a>> {
-    let together = try_edits(copy, batch, codes);
+fn try_batch<'a>(copy: &Copy, batch: &[&'a Edit], unchanged: &Unchanged) -> Vec<Tried<'a>> {
+    let together = try_edits(copy, batch, unchanged);
     let again = |tried: Tried<'a>| match tried.1 {
         Verdict::Refused(_) => vec![tried],
-        _ => try_edits(copy, &[tried.0], codes),
+        _ => try_edits(copy, &[tried.0], unchanged),
     };
     if batch.len() == 1 {
         together
@@ -122,10 +116,10 @@ fn try_batch<'a>(copy: &Copy, batch: &[&'a Edit], codes: &BTreeMap<&str, String>
 }
 
 /// Applies edits of one crate, has rt check the crate, undoes the edits and judges each.
-fn try_edits<'a>(copy: &Copy, edits: &[&'a Edit], codes: &BTreeMap<&str, String>) -> Vec<Tried<'a>> {
+fn try_edits<'a>(copy: &Copy, edits: &[&'a Edit], unchanged: &Unchanged) -> Vec<Tried<'a>> {
     let (began, name) = (Instant::now(), &edits[0].crate_name);
-    let judged = edit::apply_all(edits, &copy.crate_folder(name)).and_then(|before| {
-        let judged = judge_applied(copy, edits, &codes[name.as_str()]);
+    let judged = edit::apply_all(edits, &copy.crate_folder(name)).and_then(|mut before| {
+        let judged = judge_applied(copy, edits, &unchanged[name.as_str()], &mut before);
         edit::write(&before).and(judged)
     });
     let verdicts = judged.unwrap_or_else(|reason| edits.iter().map(|_| Verdict::Fault(reason.clone())).collect());
@@ -133,33 +127,46 @@ fn try_edits<'a>(copy: &Copy, edits: &[&'a Edit], codes: &BTreeMap<&str, String>
     edits.iter().zip(verdicts).map(|(edit, verdict)| (*edit, verdict, seconds)).collect()
 }
 
-/// Judges a crate as edits have left it, each edit by what rt says of its place and by the shape of the code, which was `code`
-/// before.
-fn judge_applied(copy: &Copy, edits: &[&Edit], code: &str) -> Result<Vec<Verdict>, String> {
+/// Judges a crate as edits have left it, each edit by what rt says of its place. Proofs are renamed to fit the code first, and their
+/// texts put to those that are to be written back.
+fn judge_applied(copy: &Copy, edits: &[&Edit], listed: &Listed, before: &mut Texts) -> Result<Vec<Verdict>, String> {
     let name = &edits[0].crate_name;
-    let (log, edited) = (copy.check(name)?, copy.code(name)?);
     let places: Vec<Place> =
         edits.iter().map(|edit| Place { at: &edit.at, proof: copy.proof_of(name, &edit.at) }).collect();
-    let verdicts = edits.iter().zip(&places).map(|(edit, place)| {
-        let verdict = judge::judge(&judge::of_place(&log, name, place, &places), name, place);
-        match (verdict, &place.proof) {
-            (Verdict::Fault(reason), _) => {
-                Ok(Verdict::Fault(format!("{reason}:\n{}", copy::start_of(&log).trim_end())))
-            }
-            (Verdict::Refused(first), Some(file)) if edit.changes_code() => {
-                let path = copy.crate_folder(name).join(file);
-                let proof = fs::read_to_string(path).map_err(|error| error.to_string())?;
-                let same = shape::shape(&edited, &proof) == shape::shape(code, &proof);
-                Ok(if same {
-                    Verdict::Refused(first)
-                } else {
-                    Verdict::Fault("it changes the shape of the code".to_string())
-                })
-            }
-            (verdict, _) => Ok(verdict),
+    let mut fits = vec![true; edits.len()];
+    if edits.iter().any(|edit| edit.changes_code()) {
+        let edited = copy.names(name)?;
+        for (fits, place) in fits.iter_mut().zip(&places) {
+            *fits = fit(copy, name, place, listed, &edited, before)?;
         }
+    }
+    let log = copy.check(name)?;
+    let verdicts = fits.iter().zip(&places).map(|(fits, place)| match judge::judge(&log, name, place, &places) {
+        Verdict::Fault(reason) => Verdict::Fault(format!("{reason}:\n{}", copy::start_of(&log).trim_end())),
+        Verdict::Refused(_) if !fits => Verdict::Fault("it changes the shape of the code".to_string()),
+        verdict => verdict,
     });
-    verdicts.collect()
+    Ok(verdicts.collect())
+}
+
+/// Renames what the proof of a place cites of the unchanged code to what it is in the edited code; whether the two have one shape.
+fn fit(
+    copy: &Copy,
+    name: &str,
+    place: &Place,
+    unchanged: &Listed,
+    edited: &Listed,
+    before: &mut Texts,
+) -> Result<bool, String> {
+    let [Some(own), Some(other)] = [unchanged, edited].map(|listed| listed.of(name, place.at)) else { return Ok(true) };
+    let Some(renamed) = own.renamed(&other) else { return Ok(false) };
+    for file in place.proof.iter().flat_map(|proof| copy.proof_files(name, proof)) {
+        let proof = fs::read_to_string(&file).map_err(|error| error.to_string())?;
+        let text = names::rename(&proof, &renamed);
+        before.insert(file.clone(), proof);
+        fs::write(&file, text).map_err(|error| error.to_string())?;
+    }
+    Ok(true)
 }
 
 /// What is printed of an edit.

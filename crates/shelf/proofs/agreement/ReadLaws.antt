@@ -3,30 +3,29 @@
 use mathlib.Core.Bool.{Bool, true, false, not, ◌&&◌}
 use mathlib.Core.List.{List}
 use mathlib.Core.Option.{Option, none, some}
-use mathlib.Core.Logic.{◌≢◌}
-use mathlib.Core.Path.{◌≡◌, refl, sym, ap, ap₂, ◌∙◌, subst}
-use Prim.Native.Nat.{ℕ, ◌+◌, ◌-◌, ◌*◌, ◌/◌, ◌%◌, ◌≤◌, ◌<◌}
+use mathlib.Core.Path.{◌≡◌, sym, ap, ap₂, ◌∙◌, subst}
+use Prim.Native.Nat.{ℕ, ◌+◌, ◌-◌, ◌/◌, ◌%◌, ◌≤◌, ◌<◌}
 use native.Mathlib.Decide.{dec_lt}
-use native.Mathlib.Nat.{mod-lt, mul_comm, div-lt_iff_lt-mul}
+use native.Mathlib.Nat.{mod-lt}
 use native.Mathlib.Omega.{arith}
-use lib.Dec.{eqb, ltb}
-use borrow.Author.Tests.{lt-ltb, le-ltb, ltb-true, eqb-true}
+use lib.Dec.{ltb}
+use borrow.Author.Tests.{lt-ltb, le-ltb}
 use Rattle.stripe.proofs.Laws.{one_to_one}
 use Rattle.shelf.specs.Counting.{choose, count}
-use Rattle.shelf.specs.Members.{InRange, array_members, all_members, member_at, addresses, wanted, block_parity, other_missing, worked_back, confirmed}
+use Rattle.shelf.specs.Members.{InRange, array_members, all_members, member_at, wanted, block_parity, worked_back}
 use Rattle.shelf.specs.State.{State, is_some, listed, stale}
-use Rattle.shelf.specs.Status.{Call, start, fail, put_back, write, read, fetch, resync, rebuild, new_log, full_resync, log_failed, withheld}
-use Rattle.shelf.specs.Calls.{or_else, original, missing, block_at, disputed, some_disputed, code, disputes}
+use Rattle.shelf.specs.Status.{read, fetch, log_failed, withheld}
+use Rattle.shelf.specs.Calls.{or_else, original, missing, block_at, code}
 use Rattle.shelf.specs.Book.{Book}
 use Rattle.shelf.specs.Lent.{buffer_of, read_buffer, fetch_buffer}
 use Rattle.shelf.specs.declared.record.Geometry.{Geometry}
-use Rattle.shelf.proofs.general.CountLaws.{any_none, none_any, count-more, no_two_roles, no_three_roles}
-use Rattle.shelf.proofs.general.TestLaws.{cases, clash, and_fine, and_left, and_right, not_on, choose_true, choose_false}
+use Rattle.shelf.proofs.general.CountLaws.{any_none, count-more, no_two_roles, no_three_roles}
+use Rattle.shelf.proofs.general.TestLaws.{cases, clash, choose_true, choose_false}
 use Rattle.shelf.proofs.lent.LayoutLaws.{blocks_of-same}
-use Rattle.shelf.proofs.agreement.RowParity.{FewMissing, rest-there, worked_exact, confirmed_exact}
+use Rattle.shelf.proofs.agreement.RowParity.{FewMissing, worked_exact}
 use Rattle.shelf.proofs.agreement.ListedLaws.{opt_cases, some_is, unlisted, ori_listed, none_listed}
 use Rattle.shelf.proofs.agreement.Agreement.{Nearly, positive}
-use Rattle.shelf.proofs.agreement.StatusLaws.{in_stripe, read_passed, fetch_passed, rebuild_passed}
+use Rattle.shelf.proofs.agreement.StatusLaws.{in_stripe, read_passed, fetch_passed}
 
 -- Where each listed block of stripe x has an Ori: which roles are missing, of a state with no more failed members than parities.
 module _ (g : Geometry) (s : State) (x : ℕ) (have : (j : ℕ) → j < g.d → s.log.ori x j ≡ none → listed s.log x j ≡ false) where
@@ -104,45 +103,7 @@ module _ (g : Geometry) (Y : InRange g) (s : State) (b : Book) (A : Nearly g s b
         original_data original_at i h
         (missing-none g s x have i h o ∙ f)
 
-    -- and where it alone is missing, with two parities, it is confirmed
-    confirmed_known : g.parities ≡ 2 → (i : ℕ) → i < g.d → s.log.ori x i ≡ none → s.failed (member_at g x i) ≡ true
-        → other_missing g (missing g s x) i ≡ i → confirmed g (original g s x) i ≡ true
-    confirmed_known two i h o f alone =
-        confirmed_exact g Y.d_most (original g s x) (A.orig x) (λ j hj. A.origs x j hx hj) i h
-        (λ n hn ni. original_data n hn (there n (omega arith) ni)) (λ p hp. original_at p (omega (arith, two)) (there (g.d + p) (omega (arith, two)) (λ e. omega arith)))
-      where
-        there : (n : ℕ) → n < g.d + g.parities → n ≢ i → missing g s x n ≡ false
-        there n hn ni = rest-there g (missing g s x) i Y.parities_least few h (missing-none g s x have i h o ∙ f) n hn ni (λ e. ni (e ∙ alone))
-
-  -- of the stripe of a lost block that is not withheld, all originals are known but those of unlisted blocks on failed disks
-  known : (i : ℕ) → i < g.d → withheld g s.failed (listed s.log) x i ≡ false → s.failed (member_at g x i) ≡ true → s.log.cur x i ≡ none → s.log.ori x i ≡ none
-      → ((j : ℕ) → j < g.d → s.log.ori x j ≡ none → listed s.log x j ≡ false) × ((j r : ℕ) → j < g.d → s.log.ori x j ≡ some r → s.log.value r ≡ A.orig x j)
-  known i h nw e c o =
-      cases (log_failed g s.failed)
-      (λ l.
-      let fresh : stale g (listed s.log) x ≡ false = sym (ap₂ (λ (t u : Bool). t && (u && stale g (listed s.log) x)) l e) ∙ nw in
-      let un : (j : ℕ) → j < g.d → listed s.log x j ≡ false = any_none g.d (listed s.log x) fresh in
-      (λ j hj _. un j hj, λ j r hj oj. clash (ori_listed s.log x j r oj) (un j hj)))
-      (λ l. (
-        λ j hj oj. cases (listed s.log x j) (λ t. clash (A.whole x j i hx hj h oj t) (none_listed s.log x i o c)) (λ t. t),
-        λ j r hj oj. (A.noted.oris x j hx hj r oj).1 l,
-      ))
-
-  -- a block that is not withheld is not disputed
-  pub block_undisputed : (i : ℕ) → i < g.d → withheld g s.failed (listed s.log) x i ≡ false → disputed g s x i ≡ false
-  unfolding disputed
-  block_undisputed i h nw =
-      let other = other_missing g (missing g s x) i in
-      and_fine (ltb 1 g.parities) _ (λ two.
-      and_fine (s.failed (member_at g x i) && not (listed s.log x i)) _ (λ lost.
-      and_fine (eqb other i) _ (λ alone.
-      let two' : 1 < g.parities = ltb-true 1 g.parities two in
-      let f : s.failed (member_at g x i) ≡ true = and_left (s.failed (member_at g x i)) (not (listed s.log x i)) lost in
-      let un = unlisted s.log x i (not_on (listed s.log x i) (and_right (s.failed (member_at g x i)) (not (listed s.log x i)) lost)) in
-      let K = known i h nw f un.1 un.0 in
-      ap not (confirmed_known K.0 K.1 (omega (arith, two', Y.parities_most)) i h un.0 f (eqb-true other i alone)))))
-
-  -- a block that is not withheld is the book's
+  -- a block that is not withheld
   pub block_exact : (i : ℕ) → i < g.d → withheld g s.failed (listed s.log) x i ≡ false → block_at g s x i ≡ b.held x i
   unfolding block_at
   block_exact i h nw =
@@ -162,9 +123,9 @@ module _ (g : Geometry) (Y : InRange g) (s : State) (b : Book) (A : Nearly g s b
       log_lost : s.failed (member_at g x i) ≡ true → log_failed g s.failed ≡ true → found (s.log.cur x i) (s.log.ori x i) ≡ b.held x i
       log_lost e l =
           let fresh : stale g (listed s.log) x ≡ false = sym (ap₂ (λ (t u : Bool). t && (u && stale g (listed s.log) x)) l e) ∙ nw in
-          let un = unlisted s.log x i (any_none g.d (listed s.log x) fresh i h) in
-          let K = known i h nw e un.1 un.0 in
-          by_parity un.1 un.0 (worked_back_lem K.0 K.1 i h un.0 e)
+          let un : (j : ℕ) → j < g.d → listed s.log x j ≡ false = any_none g.d (listed s.log x) fresh in
+          by_parity (unlisted s.log x i (un i h)).1 (unlisted s.log x i (un i h)).0
+          (worked_back_lem (λ j hj _. un j hj) (λ j r hj o. clash (ori_listed s.log x j r o) (un j hj)) i h (unlisted s.log x i (un i h)).0 e)
 
       -- the log is sound: Cur, else Ori, else parity, which an unlisted block's stripe has originals for
       log-sound : s.failed (member_at g x i) ≡ true → log_failed g s.failed ≡ false → found (s.log.cur x i) (s.log.ori x i) ≡ b.held x i
@@ -172,7 +133,11 @@ module _ (g : Geometry) (Y : InRange g) (s : State) (b : Book) (A : Nearly g s b
           opt_cases (s.log.cur x i)
           (λ c.
           opt_cases (s.log.ori x i)
-          (λ o. let K = known i h nw e c o in by_parity c o (worked_back_lem K.0 K.1 i h o e))
+          (λ o.
+          by_parity c o
+          (worked_back_lem
+          (λ j hj oj. cases (listed s.log x j) (λ t. clash (A.whole x j i hx hj h oj t) (none_listed s.log x i o c)) (λ t. t))
+          (λ j r hj oj. (A.noted.oris x j hx hj r oj).1 l) i h o e))
           (λ r o. ap₂ found c o ∙ (A.noted.oris x i hx h r o).1 l ∙ A.noted.plain x i hx h c))
           (λ r c. ap (λ (z : Option ℕ). found z (s.log.ori x i)) c ∙ (A.noted.curs x i hx h r c).1 l)
 
@@ -204,27 +169,3 @@ module _ (g : Geometry) (Y : InRange g) (s : State) (b : Book) (A : Nearly g s b
   nearly_read z j h =
       let r = read_passed g s a n len z in
       A.sound ((a + j) / g.d) ((a + j) % g.d) (in_stripe g (positive Y) a n r.0 j h) (mod-lt (a + j) (positive Y)) (r.1 j h)
-
--- no block that an accepted call works back is disputed
-module _ (g : Geometry) (Y : InRange g) (s : State) (b : Book) (A : Nearly g s b) where
-  none-disputed : (a n : ℕ) → ((j : ℕ) → j < n → (a + j) / g.d < g.s) → ((j : ℕ) → j < n → wanted g (withheld g s.failed (listed s.log)) a j ≡ false)
-      → some_disputed g s a n ≡ false
-  none-disputed a n low nw =
-      none_any n (wanted g (disputed g s) a)
-      (λ j h. block_undisputed g Y s b A ((a + j) / g.d) (low j h) ((a + j) % g.d) (mod-lt (a + j) (positive Y)) (nw j h))
-
-  pub nearly_undisputed : (c : Call) → code g c s ≡ 0 → disputes g c s ≡ false
-  unfolding disputes
-  nearly_undisputed start z = refl
-  nearly_undisputed (fail j) z = refl
-  nearly_undisputed (put_back j) z = refl
-  nearly_undisputed (write a n v) z = refl
-  nearly_undisputed (read a n len) z = refl
-  nearly_undisputed (fetch a n len) z =
-      let r = fetch_passed g s a n len z in none-disputed a n (in_stripe g (positive Y) a n r.0) r.1
-  nearly_undisputed resync z = refl
-  nearly_undisputed rebuild z =
-      let low : (j : ℕ) → j < g.d * g.s → (0 + j) / g.d < g.s = λ j h. let c : g.d * g.s ≡ g.s * g.d = mul_comm g.d g.s in (div-lt_iff_lt-mul (positive Y)).1 (omega arith) in
-      none-disputed 0 (addresses g) low (λ j h. rebuild_passed g s z ((0 + j) / g.d) ((0 + j) % g.d) (low j h) (mod-lt (0 + j) (positive Y)))
-  nearly_undisputed new_log z = refl
-  nearly_undisputed full_resync z = refl

@@ -12,11 +12,11 @@ use lib.Dec.{eqb, ltb}
 use lib.ListN.{length, get_or, get_or-eq_default}
 use borrow.Author.Tests.{lt-ltb, le-ltb, eq-eqb, ne_eqb}
 use Rattle.stripe.specs.Blocks.{gen, block}
-use Rattle.stripe.specs.Parity.{made, parity_of, Recoverable, solved, confirms}
+use Rattle.stripe.specs.Parity.{made, parity_of, Recoverable, solved}
 use Rattle.stripe.specs.Sound.{AreBytes}
-use Rattle.stripe.proofs.Laws.{every-each, confirms-sound, parity_ext, zeros_obey, by_role, made_obeys, made_data, made-parity, solved_exact, fits, length-block, get_or-block, length-gen, get_or-gen, gen_of, gen_ext}
+use Rattle.stripe.proofs.Laws.{parity_ext, zeros_obey, by_role, made_obeys, made_data, made-parity, solved_exact, fits, length-block, get_or-block, length-gen, get_or-gen, gen_of, gen_ext}
 use Rattle.shelf.specs.Counting.{any, first}
-use Rattle.shelf.specs.Members.{IsBlock, blank, column, block_parity, other_missing, worked_back, confirmed, array_members}
+use Rattle.shelf.specs.Members.{IsBlock, blank, column, block_parity, other_missing, worked_back, array_members}
 use Rattle.shelf.specs.declared.record.Geometry.{Geometry}
 use Rattle.shelf.proofs.general.CountLaws.{any_none, first_found}
 use Rattle.shelf.proofs.general.TestLaws.{cases, clash, choose_true, choose_false, and_fine, and_left, and_right}
@@ -142,27 +142,6 @@ module _ (g : Geometry) (missing : ℕ → Bool) (i : ℕ) where
       one m single =
           elim (dec_lt i n) [ yes p ↦ absurd (few.0 single i n p hn mi m) | no p ↦ absurd (few.0 single n i (omega arith) (omega arith) m mi) ]
 
--- a column of a row, whose role n is the data block of another row or that one's parity, is there the column that is made of the other row
-as_made : (g : Geometry) (r row : ℕ → List ℕ) (j : ℕ) → j < g.b → (n : ℕ) → (n < g.d → r n ≡ row n) → ((p : ℕ) → n ≡ g.d + p → r n ≡ block_parity g p row)
-    → column r j n ≡ made g.d (column row j) n
-unfolding block_parity
-as_made g r row j hj n there made_of =
-    by_role g.d n (λ k. column r j k ≡ made g.d (column row j) k)
-    (λ p. ap (λ (v : List ℕ). get_or v j 0) (there p) ∙ sym (made_data g.d (column row j) n p))
-    (λ p e. ap (λ (v : List ℕ). get_or v j 0) (sym (ap r e) ∙ made_of p e) ∙ get_or-gen g.b (λ k. parity_of p g.d (column row k)) j hj ∙ sym (made-parity g.d (column row j) p))
-
-made_bytes : (g : Geometry) (row : ℕ → List ℕ) → ((i : ℕ) → i < g.d → IsBlock g (row i)) → (j i : ℕ) → i < g.d → made g.d (column row j) i < 256
-made_bytes g row proper j i p = subst (λ (v : ℕ). v < 256) (sym (made_data g.d (column row j) i p)) ((proper i p).1 j)
-
--- with two parities, a data block that alone is missing is confirmed
-pub confirmed_exact : (g : Geometry) → g.d ≤ 16 → (r row : ℕ → List ℕ) → ((i : ℕ) → i < g.d → IsBlock g (row i)) → (i : ℕ) → i < g.d
-    → ((n : ℕ) → n < g.d → n ≢ i → r n ≡ row n) → ((p : ℕ) → p < 2 → r (g.d + p) ≡ block_parity g p row) → confirmed g r i ≡ true
-unfolding confirmed
-confirmed_exact g hd r row proper i hi there made_of =
-    every-each g.b (λ j. confirms g.d i (column r j))
-    (λ j hj. confirms-sound g.d i (made g.d (column row j)) (column r j) hd (λ n p. made_bytes g row proper j n p) (made_obeys g.d 2 (column row j))
-    (λ n hn ni. as_made g r row j hj n (λ p. there n p ni) (λ p e. ap r e ∙ made_of p (omega arith))) hi)
-
 pub worked_exact : (g : Geometry) → g.d ≤ 16 → 1 ≤ g.parities → (missing : ℕ → Bool) (r row : ℕ → List ℕ)
     → FewMissing g missing
     → ((i : ℕ) → i < g.d → IsBlock g (row i))
@@ -173,13 +152,18 @@ unfolding worked_back
 worked_exact g hd some missing r row few proper there-data there-parity i hi mi =
     sym (gen_of g.b (λ j. solved g.d i (other_missing g missing i) (column r j)) (row i) (proper i hi).0 byte)
   where
+    column-parity : (p j : ℕ) → j < g.b → r (g.d + p) ≡ block_parity g p row → get_or (r (g.d + p)) j 0 ≡ parity_of p g.d (column row j)
+    column-parity p j hj e = ap (λ (v : List ℕ). get_or v j 0) e ∙ unfold block_parity in get_or-gen g.b (λ k. parity_of p g.d (column row k)) j hj
+
     same : (j : ℕ) → j < g.b → (n : ℕ) → n < g.d + g.parities → n ≢ i → n ≢ other_missing g missing i → column r j n ≡ made g.d (column row j) n
     same j hj n hn ni ny =
         let m : missing n ≡ false = rest-there g missing i some few hi mi n hn ni ny in
-        as_made g r row j hj n (λ p. there-data n p m) (λ p e. ap r e ∙ there-parity p (omega arith) (ap missing (sym e) ∙ m))
+        by_role g.d n (λ k. column r j k ≡ made g.d (column row j) k)
+        (λ p. ap (λ (v : List ℕ). get_or v j 0) (there-data n p m) ∙ sym (made_data g.d (column row j) n p))
+        (λ p e. column-parity p j hj (there-parity p (omega arith) (ap missing (sym e) ∙ m)) ∙ sym (made-parity g.d (column row j) p))
 
     byte : (j : ℕ) → j < g.b → get_or (row i) j 0 ≡ solved g.d i (other_missing g missing i) (column r j)
     byte j hj =
         sym (solved_exact g.d g.parities i (other_missing g missing i) (made g.d (column row j)) (column r j) hd some (other_few g missing i)
-        (λ n p. made_bytes g row proper j n p) (made_obeys g.d g.parities (column row j)) (same j hj) hi
+        (λ n p. subst (λ (v : ℕ). v < 256) (sym (made_data g.d (column row j) n p)) ((proper n p).1 j)) (made_obeys g.d g.parities (column row j)) (same j hj) hi
         ∙ made_data g.d (column row j) i hi)

@@ -1,7 +1,7 @@
 -- A block as a fetch gives it, out of array and log as lent: on a sound disk, from the log, worked back; and a buffer that is filled with blocks.
 -- Assumes nothing.
 use mathlib.Core.Bool.{Bool, true, false, ◌||◌}
-use mathlib.Core.List.{List, ◌++◌, append_assoc}
+use mathlib.Core.List.{List, ◌++◌}
 use mathlib.Core.Logic.{◌≢◌}
 use mathlib.Core.Option.{Option}
 use mathlib.Core.Path.{◌≡◌, refl, sym, ap, ap₂, ◌∙◌, subst}
@@ -10,17 +10,16 @@ use native.Mathlib.Nat.{mul-le-mul_right, suc-mul}
 use native.Mathlib.Decide.{ℕ_discrete}
 use native.Mathlib.Omega.{arith}
 use lib.Dec.{eqb, ltb}
-use lib.ListN.{length, get_or, take, drop, length-drop}
-use lib.Seq.{length-take-le, drop-drop}
+use lib.ListN.{length, get_or}
 use borrow.Author.Tests.{lt-ltb, le-ltb, eq-eqb, ne_eqb, ltb-true, ltb-false, eqb-true}
 use Rattle.stripe.specs.Blocks.{gen, block, put, byte_of}
-use Rattle.stripe.specs.Parity.{every, Recoverable, solved, confirms}
+use Rattle.stripe.specs.Parity.{Recoverable, solved}
 use Rattle.stripe.specs.Places.{numbered, column_at, by_column}
 use Rattle.stripe.specs.below.Tables.{Tabled, Held}
-use Rattle.stripe.specs.below.Steps.{Gathers, by_test}
-use Rattle.stripe.proofs.Laws.{every_ext, confirms_ext, place_lt, array_byte, log_byte, solved_ignores, fits, length-block, get_or-block, block-whole, length-gen, gen_ext, block-put-same, block-put_other, length-put}
+use Rattle.stripe.specs.below.Steps.{Gathers}
+use Rattle.stripe.proofs.Laws.{place_lt, array_byte, log_byte, solved_ignores, fits, length-block, get_or-block, block-whole, length-gen, gen_ext, block-put-same, block-put_other, length-put}
 use Rattle.shelf.specs.Counting.{choose}
-use Rattle.shelf.specs.Members.{array_members, member_at, place_at, wanted, address_of, column, other_missing, worked_back, confirmed}
+use Rattle.shelf.specs.Members.{array_members, member_at, place_at, wanted, address_of, column, other_missing, worked_back}
 use Rattle.shelf.specs.Calls.{or_else, original, block_at}
 use Rattle.shelf.specs.Words.{words}
 use Rattle.shelf.specs.HashList.{none_word, said, is_record}
@@ -178,18 +177,6 @@ module _ (r : Shelf) (a n l : List ℕ) (R : Ready (lent r a n l)) (x : ℕ) (hx
       solved_ignores g.d g.parities i y (column_at (numbered ns) g.b (a ++ n) j) (column (original g (state_of (lent r a n l)) x) j) R.listing.range.parities_least few hi
       (λ k hk _ _. ap (λ (m : ℕ). byte_of g.b (a ++ n) m j) (tab k hk) ∙ original_byte k j hk hj))
 
-  -- and so is what is tested by it
-  pub confirmed_by : (i : ℕ) (ns : List ℕ) → i < r.geometry.d → 2 ≤ r.geometry.parities → Tabled (r.geometry.d + r.geometry.parities) (original_place r.geometry l x) ns
-      → (t : Bool) → t ≡ every r.geometry.b (by_test (confirms r.geometry.d i) (numbered ns) r.geometry.b (a ++ n))
-      → t ≡ confirmed r.geometry (original r.geometry (state_of (lent r a n l)) x) i
-  unfolding by_test column_at numbered confirmed
-  confirmed_by i ns hi two tab t e =
-      let g = r.geometry in
-      e ∙ every_ext g.b (λ j. confirms g.d i (column_at (numbered ns) g.b (a ++ n) j)) (λ j. confirms g.d i (column (original g (state_of (lent r a n l)) x) j))
-      (λ j hj.
-      confirms_ext g.d i (column_at (numbered ns) g.b (a ++ n) j) (column (original g (state_of (lent r a n l)) x) j) hi
-      (λ k hk _. ap (λ (m : ℕ). byte_of g.b (a ++ n) m j) (tab k (omega arith)) ∙ original_byte k j (omega arith) hj))
-
   pub worked : (i y : ℕ) (work : List ℕ) → y ≡ other_missing r.geometry (missing_by r l x) i → work ≡ solved_block (lent r a n l) x i y
       → work ≡ lost_block (lent r a n l) x i
   unfolding worked_back state_of solved_block
@@ -251,20 +238,6 @@ put_as b j out v w o e q = e ∙ ap (λ (z : List ℕ). put b j z out) q
 -- out of a working block
 pub put_worked : (b j : ℕ) (out u v o : List ℕ) → o ≡ put b j (block b 0 u) out → u ≡ v → length v ≡ b → o ≡ put b j v out
 put_worked b j out u v o e q size = put_as b j out (block b 0 u) v o e (block-whole b u (ap length q ∙ size) ∙ q)
-
--- a part of the buffer lent as a working block
-pub part_long : (b j : ℕ) (out : List ℕ) → j * b + b ≤ length out → length (take (j * b + b - j * b) (drop (j * b) out)) ≡ b
-part_long b j out h =
-    let k : j * b + b - j * b ≡ b = omega arith in
-    let long = length-drop (j * b) out in
-    ap (λ (n : ℕ). length (take n (drop (j * b) out))) k ∙ length-take-le b (drop (j * b) out) (omega (arith, long, h))
-
-pub put-within : (b j : ℕ) (out w v : List ℕ) → w ≡ v → (take (j * b) out ++ (w ++ drop (j * b + b - j * b) (drop (j * b) out))) ≡ put b j v out
-unfolding put
-put-within b j out w v e =
-    ap (λ (z : List ℕ). take (j * b) out ++ (z ++ drop (j * b + b - j * b) (drop (j * b) out))) e
-    ∙ ap (λ (z : List ℕ). take (j * b) out ++ (v ++ z)) (drop-drop (j * b + b - j * b) (j * b) out ∙ ap (λ (n : ℕ). drop n out) (let k : j * b + (j * b + b - j * b) ≡ j * b + b = omega arith in k))
-    ∙ sym (append_assoc (take (j * b) out) v (drop (j * b + b) out))
 
 -- ---- a buffer filled with blocks, one after another
 

@@ -16,7 +16,7 @@ use Rattle.shelf.specs.below.Records.{Sized, failed_role, with_cleared}
 use Rattle.shelf.specs.Members.{array_members, member_at}
 use Rattle.shelf.specs.State.{State, listed, stale, marks_in}
 use Rattle.shelf.specs.Status.{rebuild, array_failed, array_sound, withheld, data_withheld, row, code_of}
-use Rattle.shelf.specs.Calls.{next_left, mode_left, settled, dropped, array_cleared, rebuilt, work, disputes}
+use Rattle.shelf.specs.Calls.{next_left, mode_left, settled, dropped, array_cleared, rebuilt, work}
 use Rattle.shelf.specs.Words.{words}
 use Rattle.shelf.specs.below.Lists.{Measures, Lists, stale_in}
 use Rattle.shelf.specs.Lent.{Lent, lent, flag_at, flags_of, state_of, listed_by, tries_list, number_of, record_of, log_of, Leaves, Answered}
@@ -28,7 +28,6 @@ use Rattle.shelf.specs.declared.record.Shelf.{Shelf}
 use Rattle.shelf.proofs.general.TestLaws.{cases, clash, choose_true, choose_false, and_false, and_left, and_right, same_bool}
 use Rattle.shelf.proofs.general.CountLaws.{any_ext, any_some, any_found, none_any}
 use Rattle.shelf.proofs.numbers.TableRows.{row_hit, row_pass}
-use Rattle.shelf.proofs.numbers.AnswerLaws.{undisputed_number}
 use Rattle.shelf.proofs.numbers.InputLaws.{sized, Passed, few-flags, inputs_pass, measures_of_lem}
 use Rattle.shelf.proofs.hashlist.ListMarks.{marks_listed}
 use Rattle.shelf.proofs.agreement.ListedLaws.{marks-none}
@@ -204,12 +203,11 @@ module _ (r : Shelf) (a n l : List ℕ) where
         leaves_by g (rebuilt g st) (rebuilt_record r k) (rebuilt_to (lent r a n l) g.s) n l' (passed e).range after_record
         (rebuilt_reads r a n l (few-failed (passed e)) (rebuild_asks e).ready) after_log after_list bytes
 
-    pub rebuild_answered : (r' : Shelf) (a' : List ℕ) → disputes r.geometry rebuild (state_of (lent r a n l)) ≡ false → a' ≡ rebuilt_to (lent r a n l) r.geometry.s
-        → r' ≡ rebuilt_record r k → Answered (lent r a n l) rebuild 0 (lent r' a' n l')
+    pub rebuild_answered : (r' : Shelf) (a' : List ℕ) → a' ≡ rebuilt_to (lent r a n l) r.geometry.s → r' ≡ rebuilt_record r k → Answered (lent r a n l) rebuild 0 (lent r' a' n l')
     unfolding work
-    rebuild_answered r' a' agreed ea er =
+    rebuild_answered r' a' ea er =
         record {
-          number = e ∙ sym (undisputed_number (lent r a n l) rebuild agreed);
+          number = e;
           done = λ _. subst (λ (h : Lent). Leaves g (rebuilt g st) h) (sym (λ i. record { shelf = er i; array = ea i; log = n; list = l' })) after_leaves;
           refused = λ z. absurd (z refl);
         }

@@ -12,7 +12,7 @@ use lib.Dec.{eqb, ltb}
 use lib.ListN.{length, get_or, set, replicate, get_or-replicate}
 use lib.Seq.{get_or-set_same, get_or-set_other}
 use borrow.Author.Count.{below_more}
-use borrow.Author.Tests.{eq-eqb, ne_eqb, lt-ltb, le-ltb, eqb-true, eqb-false}
+use borrow.Author.Tests.{eq-eqb, lt-ltb, le-ltb, eqb-true, eqb-false}
 use Rattle.stripe.specs.below.Tables.{Tabled}
 use Rattle.shelf.specs.Counting.{choose}
 use Rattle.shelf.specs.below.Tables.{Tests, tested}
@@ -26,7 +26,7 @@ use Rattle.shelf.specs.below.Reading.{ListReady, latest, original_place, missing
 use Rattle.shelf.specs.below.Writing.{ori_word, cur_word, EntriesOf}
 use Rattle.shelf.specs.declared.record.Shelf.{Shelf}
 use Rattle.shelf.specs.declared.entries.Entries.{Entries}
-use Rattle.shelf.proofs.general.TestLaws.{cases, and_false, choose_true, choose_false}
+use Rattle.shelf.proofs.general.TestLaws.{cases, choose_true, choose_false}
 use Rattle.shelf.proofs.general.CountLaws.{first_ext}
 use Rattle.shelf.proofs.hashlist.ListMeaning.{said_ori}
 use Rattle.shelf.proofs.calls.ServedLaws.{record_some, record_none, number_log, number_array}
@@ -47,18 +47,6 @@ module _ (o c : ℕ) (b : Bool) where
   pub missing_unlisted : o ≡ none_word → c ≡ none_word → b ≡ choose (is_some (record_at o) || is_some (record_at c)) (not (is_some (record_at o))) b
   unfolding is_some choose
   missing_unlisted e n = sym (ap₂ (λ (k m : Option ℕ). choose (is_some k || is_some m) (not (is_some k)) b) (record_none o e) (record_none c n))
-
--- ---- a block on a failed member is tested: with two parities, where its latest record v is none and the other missing role m is itself, i
-
-pub tested_one : (p : ℕ) (t : Bool) → p < 2 → false ≡ (ltb 1 p && t)
-tested_one p t e = sym (ap (λ (u : Bool). u && t) (le-ltb 1 p (omega arith)))
-
-pub tested_listed : (two : Bool) (v : ℕ) (t : Bool) → v ≢ none_word → false ≡ (two && (eqb v none_word && t))
-tested_listed two v t n = sym (ap (λ (u : Bool). two && (u && t)) (ne_eqb v none_word n) ∙ and_false two)
-
-pub tested_alone : (p v k m i : ℕ) → 1 < p → v ≡ none_word → k ≡ m → eqb k i ≡ (ltb 1 p && (eqb v none_word && eqb m i))
-tested_alone p v k m i two e q =
-    ap (λ (z : ℕ). eqb z i) q ∙ sym (ap₂ (λ (t u : Bool). t && (u && eqb m i)) (lt-ltb 1 p two) (eq-eqb v none_word e))
 
 -- ---- a table worked out one index after another
 

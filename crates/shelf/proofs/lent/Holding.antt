@@ -21,7 +21,7 @@ use Rattle.shelf.specs.Calls.{code}
 use Rattle.shelf.specs.Book.{Book, book_work, book_code, book_after}
 use Rattle.shelf.specs.Words.{words}
 use Rattle.shelf.specs.HashList.{valid}
-use Rattle.shelf.specs.Lent.{Lent, lent, flag, flag_at, state_of, array_length, log_length, list_length, number_of, answer_of, record_of, flags_of, listed_by, array_of, log_of, list_of, Leaves, Answered}
+use Rattle.shelf.specs.Lent.{Lent, lent, flag, flag_at, state_of, array_length, log_length, list_length, number_of, record_of, flags_of, listed_by, array_of, log_of, list_of, Leaves, Answered}
 use Rattle.shelf.specs.below.Showing.{HoldsList}
 use Rattle.shelf.specs.Sequence.{Fed, Reported, reported_after, Returned, Changed}
 use Rattle.shelf.specs.Clean.{Recalled}
@@ -29,7 +29,6 @@ use Rattle.shelf.specs.declared.record.Geometry.{Geometry}
 use Rattle.shelf.specs.declared.record.Shelf.{Shelf}
 use Rattle.shelf.proofs.general.TestLaws.{and_fine}
 use Rattle.shelf.proofs.numbers.InputLaws.{sized, Fine, record_fine, Passed, passed_number}
-use Rattle.shelf.proofs.numbers.AnswerLaws.{or_refused, undisputed_number}
 use Rattle.shelf.proofs.numbers.FailureLaws.{above-fine, flags-count}
 use Rattle.shelf.proofs.lent.LayoutLaws.{array-length, array_back, log-length, log_back, role_data, role_parity, flags-length, flag-back}
 use Rattle.shelf.proofs.lent.ListLayout.{laid_holds}
@@ -37,7 +36,7 @@ use Rattle.shelf.proofs.agreement.ListedLaws.{marks_in_ext}
 use Rattle.shelf.proofs.agreement.Agreement.{Agrees, Invariant, Alike, alike_keeps}
 use Rattle.shelf.proofs.lent.HeldBlocks.{disk-block, parity-block}
 use Rattle.shelf.proofs.lent.ReportLaws.{noting, unnoted}
-use Rattle.shelf.proofs.agreement.Steps.{says, undisputed, keeps, book_accepted, book_refused}
+use Rattle.shelf.proofs.agreement.Steps.{says, keeps, book_accepted, book_refused}
 
 -- What is lent agrees with the book as a state, and passes rows 1 to 3.
 pub record Holds (h : Lent) (b : Book) : Type 0 where
@@ -102,16 +101,6 @@ pub number_book : (h : Lent) (b : Book) → InRange h.shelf.geometry → Holds h
 unfolding state_of
 number_book h b Y H c =
     passed_number h.shelf (length h.array) (length h.log) h.list (holds_passed h b Y H) c ∙ says Y H.agrees c
-
--- and so is the one that it answers: no block that an accepted call works back is disputed
-pub answer_book : (h : Lent) (b : Book) → InRange h.shelf.geometry → Holds h b → (c : Call) → answer_of h c ≡ book_code h.shelf.geometry c b
-answer_book h b Y H c =
-    let number : ℕ = number_of h.shelf (length h.array) (length h.log) h.list c in
-    let is : number ≡ book_code h.shelf.geometry c b = number_book h b Y H c in
-    elim (ℕ_discrete number 0) [
-      | yes z ↦ undisputed_number h c (undisputed Y H.agrees c (says Y H.agrees c ∙ sym is ∙ z)) ∙ is
-      | no z ↦ or_refused number _ z ∙ is
-    ]
 
 -- ---- a state that was left behind is read back
 
@@ -236,7 +225,7 @@ answered_geometry h c n h' P =
 module _ (h : Lent) (b : Book) (Y : InRange h.shelf.geometry) (H : Holds h b) (c : Call) (n : ℕ) (h' : Lent) (P : Answered h c n h') where
   -- each call gets the book's number
   pub answered_number : n ≡ book_code h.shelf.geometry c b
-  answered_number = P.number ∙ answer_book h b Y H c
+  answered_number = P.number ∙ number_book h b Y H c
 
   -- accepted by the book, and so as a state
   pub answered_code : n ≡ 0 → code h.shelf.geometry c (state_of h) ≡ 0

@@ -16,13 +16,12 @@ use Rattle.shelf.specs.Members.{array_members, log_member}
 use Rattle.shelf.specs.State.{State, listed, marks_in}
 use Rattle.shelf.specs.Status.{Call, start, fail, put_back, write, read, fetch, resync, rebuild, new_log, full_resync, array_failed}
 use Rattle.shelf.specs.Calls.{settled, made, remade, logs, overwritten, logged, write_stripe, written, given, write_to, resync_stripe, resynced, rebuilt, mode_without, work}
-use Rattle.shelf.specs.Lent.{Lent, flag, flag_at, member_block, state_of, tries_list, answer_of, flags_of, array_of, Answered}
+use Rattle.shelf.specs.Lent.{Lent, flag, flag_at, member_block, state_of, tries_list, number_of, flags_of, array_of, Answered}
 use Rattle.shelf.specs.Sequence.{Reported, reported_after, Returned, Kept}
 use Rattle.shelf.specs.declared.record.Geometry.{Geometry}
 use Rattle.shelf.specs.declared.record.Shelf.{Shelf}
 use Rattle.shelf.proofs.general.CountLaws.{any_none, set_at-here, set_at-same, set_at_other}
 use Rattle.shelf.proofs.general.TestLaws.{clash, choose_true, choose_false}
-use Rattle.shelf.proofs.numbers.AnswerLaws.{accepted_number}
 use Rattle.shelf.proofs.numbers.CodeLaws.{put-back_bounds}
 use Rattle.shelf.proofs.lent.LayoutLaws.{flags-length, flag-back}
 use Rattle.shelf.proofs.lent.LeavesLaws.{turned, tried_passed, accepted_code, array-here}
@@ -105,11 +104,11 @@ write-flags g (suc c) a n v s =
 
 module _ (h : Lent) (k : Reported) (kept : Kept h.shelf.geometry h k) where
   -- an accepted put-back has its premise
-  pub kept_returned : (c : Call) (n : ℕ) → n ≡ answer_of h c → Returned h.shelf.geometry h c n k
+  pub kept_returned : (c : Call) (n : ℕ) → n ≡ number_of h.shelf (length h.array) (length h.log) h.list c → Returned h.shelf.geometry h c n k
   kept_returned start n e = tt
   kept_returned (fail j) n e = tt
   kept_returned (put_back j) n e = λ z x hx.
-      let o = (put-back_bounds h.shelf (length h.array) (length h.log) h.list j (accepted_number h (put_back j) (sym z ∙ e))).1 in
+      let o = (put-back_bounds h.shelf (length h.array) (length h.log) h.list j (sym z ∙ e)).1 in
       kept j x o.0 hx o.1
   kept_returned (write a m v) n e = tt
   kept_returned (read a m len) n e = tt
@@ -128,7 +127,7 @@ module _ (h : Lent) (k : Reported) (kept : Kept h.shelf.geometry h k) where
     array_stays : (mode : ℕ) (f : ℕ → Bool) → work h.shelf.geometry c (state_of h) ≡ turned (state_of h) mode f → tries_list c ≡ true → h'.array ≡ h.array
     array_stays mode f same three =
         (P.done refl).array ∙ ap (array_of h.shelf.geometry) same
-        ∙ sym (array-here h.shelf h.array h.log h.list (tried_passed h.shelf h.array h.log h.list c three (accepted_number h c P.number)) mode f)
+        ∙ sym (array-here h.shelf h.array h.log h.list (tried_passed h.shelf h.array h.log h.list c three P.number) mode f)
 
     -- with none failed before and the flags as they were, none has failed
     none-failed : (work h.shelf.geometry c (state_of h)).failed ≡ flag_at h.shelf → array_failed h.shelf.geometry (flag_at h.shelf) ≡ false
@@ -162,19 +161,19 @@ module _ (h : Lent) (k : Reported) (kept : Kept h.shelf.geometry h k) where
       kept_still (put_back j) h' P h.shelf.mode (set_at j false (flag_at h.shelf)) refl refl (cleared j (flag_at h.shelf))
   kept_accepted (write a n v) h' P =
       none-failed (write a n v) h' P (write-flags h.shelf.geometry h.shelf.geometry.s a n v (state_of h))
-      (write_passed h.shelf.geometry (state_of h) a n v (accepted_code h (write a n v) (accepted_number h (write a n v) P.number))).1 k
+      (write_passed h.shelf.geometry (state_of h) a n v (accepted_code h (write a n v) P.number)).1 k
   kept_accepted (read a n len) h' P = kept_still (read a n len) h' P h.shelf.mode (flag_at h.shelf) refl refl (λ m e. e)
   kept_accepted (fetch a n len) h' P = kept_still (fetch a n len) h' P h.shelf.mode (flag_at h.shelf) refl refl (λ m e. e)
   kept_accepted resync h' P =
       none-failed resync h' P (either_flags (ltb (resync_stripe h.shelf.geometry (state_of h)) h.shelf.geometry.s) _ _ refl refl)
-      (resync_passed h.shelf.geometry (state_of h) (accepted_code h resync (accepted_number h resync P.number))) k
+      (resync_passed h.shelf.geometry (state_of h) (accepted_code h resync P.number)) k
   kept_accepted rebuild h' P = λ m x hm hx e.
       clash (failed_then rebuild h' P m e) (choose_true (ltb m (array_members h.shelf.geometry)) false (flag_at h.shelf m) (lt-ltb m (array_members h.shelf.geometry) hm))
   kept_accepted new_log h' P =
       let g = h.shelf.geometry in
       kept_still new_log h' P h.shelf.mode (set_at (log_member g) false (flag_at h.shelf)) refl refl (cleared (log_member g) (flag_at h.shelf))
   kept_accepted full_resync h' P =
-      none-failed full_resync h' P refl (full_resync_passed h.shelf.geometry (state_of h) (accepted_code h full_resync (accepted_number h full_resync P.number))) k
+      none-failed full_resync h' P refl (full_resync_passed h.shelf.geometry (state_of h) (accepted_code h full_resync P.number)) k
 
   pub kept_after : (c : Call) (n : ℕ) (h' : Lent) → Answered h c n h' → Kept h.shelf.geometry h' (reported_after h.shelf.geometry h c n k)
   kept_after c n h' P =

@@ -4,7 +4,7 @@ use mathlib.Core.Path.{◌∙◌, ◌≡◌, refl, subst, sym}
 use lib.ListN.{length}
 use Rattle.shelf.specs.Lent.{Answered, lent, state_of, tries_list}
 use Rattle.shelf.specs.Members.{log_member}
-use Rattle.shelf.specs.Calls.{work, disputes}
+use Rattle.shelf.specs.Calls.{work}
 use Rattle.shelf.specs.declared.record.Shelf.{Shelf}
 use native.Mathlib.Omega.{arith}
 use Prim.Native.Nat.{ℕ, ◌<◌}
@@ -40,4 +40,4 @@ returns c =
     subst (λ (r : Shelf). Answered (lent a.shelf a.array.now a.log.now a.list.now) new_log 0 (lent r a.array.now a.log.now a.list.now)) (sym c.renew.ensures)
     (subst (λ (n : ℕ). Answered (lent a.shelf a.array.now a.log.now a.list.now) new_log 0 (lent (with_renewed a.shelf n) a.array.now a.log.now a.list.now)) (sym c.log_member.ensures)
     (renewed_answered a.shelf a.array.now a.log.now a.list.now long (λ i. omega (arith, c.shared_slice_known-3-1.given i)) new_log (log_member a.shelf.geometry)
-    (new-log_bounds a.shelf (length a.array.now) (length a.log.now) a.list.now done).1 refl refl (unfold disputes in refl) done))
+    (new-log_bounds a.shelf (length a.array.now) (length a.log.now) a.list.now done).1 refl refl done))

@@ -4,7 +4,7 @@ use mathlib.Core.Path.{◌∙◌, ◌≡◌, refl, subst, sym}
 use native.Mathlib.Omega.{arith}
 use lib.ListN.{length}
 use Rattle.shelf.specs.Lent.{Answered, lent, state_of, tries_list}
-use Rattle.shelf.specs.Calls.{work, disputes}
+use Rattle.shelf.specs.Calls.{work}
 use Rattle.shelf.specs.declared.record.Shelf.{Shelf}
 use Rattle.shelf.specs.Status.{put_back}
 use Rattle.shelf.proofs.numbers.CodeLaws.{put-back_bounds}
@@ -30,4 +30,4 @@ returns c =
     let done = sym c.if-code-ne0.false ∙ c.number_of-code.ensures in
     subst (λ (r : Shelf). Answered (lent a.shelf a.array.now a.log.now a.list.now) (put_back a.member) 0 (lent r a.array.now a.log.now a.list.now)) (sym c.renew.ensures)
     (renewed_answered a.shelf a.array.now a.log.now a.list.now long (λ i. omega (arith, c.shared_slice_known-3-1.given i)) (put_back a.member) a.member
-    (put-back_bounds a.shelf (length a.array.now) (length a.log.now) a.list.now a.member done).0 refl refl (unfold disputes in refl) done)
+    (put-back_bounds a.shelf (length a.array.now) (length a.log.now) a.list.now a.member done).0 refl refl done)

@@ -5,7 +5,7 @@ use native.Mathlib.Omega.{arith}
 use lib.ListN.{length}
 use Rattle.shelf.specs.Lent.{lent, state_of, tries_list, number_of}
 use Rattle.shelf.specs.Status.{read, code_of}
-use Rattle.shelf.specs.Calls.{work, disputes}
+use Rattle.shelf.specs.Calls.{work}
 use Rattle.shelf.proofs.lent.LeavesLaws.{refused_answered, kept_answered}
 use Rattle.shelf.proofs.calls.ServedLaws.{blocks-ready}
 use borrow.Author.Rules.{rules}
@@ -17,14 +17,10 @@ returns-then-code-ne0-clause-answered c =
     refused_answered (lent a.args.shelf a.args.array.now a.args.log.now a.args.list.now) (read a.args.address a.args.count (length a.args.out.now)) c.number_of-code.result c.number_of-code.ensures c.if-code-ne0.true
 
 pub returns-then-code-ne0-clause-out_after : goal.returns-then-code-ne0-clause-out_after
-returns-then-code-ne0-clause-out_after c =
-    let a = c in
-    λ z. absurd (c.if-code-ne0.true z)
+returns-then-code-ne0-clause-out_after c = λ z. absurd (c.if-code-ne0.true z)
 
 pub returns-then-code-ne0-clause-out_unchanged : goal.returns-then-code-ne0-clause-out_unchanged
-returns-then-code-ne0-clause-out_unchanged c =
-    let a = c in
-    λ _. refl
+returns-then-code-ne0-clause-out_unchanged c = λ _. refl
 
 pub read_blocks-requires-clause-in_range : goal.read_blocks-requires-clause-in_range
 unfolding number_of tries_list code_of
@@ -59,18 +55,12 @@ unfolding state_of work tries_list
 returns-clause-answered c =
     let a = c in
     let long : length a.args.shelf.failed ≡ 19 = search rules in
-    kept_answered a.args.shelf a.args.array.now a.args.log.now a.args.list.now long (λ i. omega (arith, c.shared_slice_known-3-1.given i)) (read a.args.address a.args.count (length a.args.out.now)) refl refl (unfold disputes in refl) (sym c.if-code-ne0.false ∙ c.number_of-code.ensures)
+    kept_answered a.args.shelf a.args.array.now a.args.log.now a.args.list.now long (λ i. omega (arith, c.shared_slice_known-3-1.given i)) (read a.args.address a.args.count (length a.args.out.now)) refl refl (sym c.if-code-ne0.false ∙ c.number_of-code.ensures)
 
 pub returns-clause-out_after : goal.returns-clause-out_after
 unfolding state_of work tries_list
-returns-clause-out_after c =
-    let a = c in
-    let long : length a.args.shelf.failed ≡ 19 = search rules in
-    λ _. c.read_blocks.ensures
+returns-clause-out_after c = λ _. c.read_blocks.ensures
 
 pub returns-clause-out_unchanged : goal.returns-clause-out_unchanged
 unfolding state_of work tries_list
-returns-clause-out_unchanged c =
-    let a = c in
-    let long : length a.args.shelf.failed ≡ 19 = search rules in
-    λ z. absurd (z refl)
+returns-clause-out_unchanged c = λ z. absurd (z refl)

@@ -7,12 +7,14 @@ use mathlib.Core.List.{List, [], ◌∷◌}
 use mathlib.Core.Path.{◌≡◌, refl, sym, ◌∙◌, subst}
 use Prim.Native.Nat.{ℕ}
 use native.Mathlib.Decide.{ℕ_discrete}
+use lib.ListN.{length}
 use Rattle.shelf.specs.State.{State}
 use Rattle.shelf.specs.Status.{Call, start, fail, put_back, write, read, fetch, resync, rebuild, new_log, full_resync}
 use Rattle.shelf.specs.Calls.{work}
-use Rattle.shelf.specs.Lent.{Lent, lent, state_of, answer_of, record_of, array_of, log_of, list_of, Leaves, Answered, read_buffer, fetch_buffer, formatted}
+use Rattle.shelf.specs.Lent.{Lent, lent, state_of, number_of, record_of, array_of, log_of, list_of, Leaves, Answered, read_buffer, fetch_buffer, formatted}
 use Rattle.shelf.specs.Sequence.{Fed, Hands, Reported, unreported, reported_after, Returned, Kept, Changed, Sequence, over, step}
 use Rattle.shelf.specs.declared.record.Geometry.{Geometry}
+use Rattle.shelf.proofs.lent.LeavesLaws.{refused_answered}
 use Rattle.shelf.proofs.lent.Holding.{leaves_is, answered_geometry}
 use Rattle.shelf.proofs.general.TestLaws.{clash}
 use Rattle.shelf.proofs.lent.FreshLaws.{no_flag}
@@ -32,7 +34,7 @@ module _ (h : Lent) (c : Call) where
   after = work g c (state_of h)
 
   abbrev number : ℕ
-  number = answer_of h c
+  number = number_of h.shelf (length h.array) (length h.log) h.list c
 
   -- there is an answer
   pub an_answer : (code : ℕ) × (h' : Lent) × Answered h c code h'
@@ -43,7 +45,7 @@ module _ (h : Lent) (c : Call) where
           lent (record_of g after) (array_of g after) (log_of g after) (list_of g after),
           record { number = refl; done = λ _. laid g after; refused = λ r. absurd (r z) },
         )
-        | no z ↦ (number, h, record { number = refl; done = λ q. absurd (z q); refused = λ _. refl })
+        | no z ↦ (number, h, refused_answered h c number refl z)
       ]
 
   -- and no other

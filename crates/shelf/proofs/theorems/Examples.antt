@@ -3,7 +3,7 @@
 -- two in the rotating one, with one parity one in both and one in the rotating one, by shelf and by book; and the session's shelf as bytes: what
 -- format leaves, the layout of array, log and list, and the numbers 1 to 3.
 -- Assumes nothing.
-use mathlib.Core.Bool.{Bool, false, ◌&&◌, ◌||◌}
+use mathlib.Core.Bool.{Bool, false, ◌||◌}
 use mathlib.Core.List.{List, [], ◌∷◌}
 use mathlib.Core.Path.{◌≡◌, refl}
 use Prim.Native.Nat.{ℕ, ◌/◌, ◌%◌}
@@ -11,16 +11,15 @@ use lib.Dec.{eqb, ltb}
 use lib.ListN.{length, get_or, replicate}
 use Rattle.field.specs.Field.{double, pow2, times_low, times, raised, inverse}
 use Rattle.stripe.specs.Blocks.{from, gen, block, byte_of, blocks_of}
-use Rattle.stripe.specs.Parity.{pick, every, sum, one, weight, weight_in, parity_p, parity_q, parity_of, without, rest_p, rest_q, from_p, from_q, from_both, solved, data_solved, recovered, confirms}
+use Rattle.stripe.specs.Parity.{pick, sum, one, weight, weight_in, parity_p, parity_q, parity_of, without, rest_p, rest_q, from_p, from_q, from_both, solved, data_solved, recovered}
 use Rattle.stripe.specs.Parity as parity
 use Rattle.stripe.specs.Places.{member_after, after_p, rotating, fixed, member_of, place}
-use Rattle.stripe.specs.Calls.{changed, each_column, bad_measures, bad_length, bad_member, too_many, accepted, make_code, make_buffer, members_code, recover_rows, or_next, recover_code, recover_buffer}
-use Rattle.stripe.specs.Calls as calls
+use Rattle.stripe.specs.Calls.{changed, each_column, bad_measures, bad_length, bad_member, too_many, accepted, make_code, make_buffer, members_code, recover_code, recover_buffer}
 use Rattle.shelf.specs.Counting.{choose, bit, count, total, any, first, lesser, set_at}
-use Rattle.shelf.specs.Members.{log_member, parity_role, member_at, address_of, blank, block_parity, other_missing, worked_back, confirmed, stripe_of, index_of}
+use Rattle.shelf.specs.Members.{log_member, parity_role, member_at, address_of, blank, block_parity, other_missing, worked_back, stripe_of, index_of}
 use Rattle.shelf.specs.State.{State, is_some, listed, marks_in, fresh_state}
 use Rattle.shelf.specs.Status.{Call, start, fail, put_back, write, read, fetch, resync, rebuild, new_log, full_resync, row, code_of}
-use Rattle.shelf.specs.Calls.{settled, made, remade, reconstructs, append_one, append, logged, write_stripe, written, write_to, block_at, resynced, rebuilt, work, disputed, code, disputes, or_disputed}
+use Rattle.shelf.specs.Calls.{settled, made, remade, reconstructs, append_one, append, logged, write_stripe, written, write_to, block_at, resynced, rebuilt, work, code, after}
 use Rattle.shelf.specs.Words.{words, bytes_of}
 use Rattle.shelf.specs.HashList.{none_word, seek, lookup, entries_from, entries, put_front, put_all, encode, rises, has, has_all, is_record, good_words, good_entry, all_good, same, valid, said}
 use Rattle.shelf.specs.Lent.{lent, flag_at, record_at, state_of, bad_record, bad_lengths, tries_list, input_rows, number_of, flags_from, record_of, role_of, array_of, log_of, word_of, entries_of, list_of, buffer_of, read_buffer, fetch_buffer, format_code, formatted}
@@ -44,13 +43,6 @@ Holds (e ∷ es) = (e.got ≡ e.want) × Holds es
 -- a shelf of d data disks and two stripes: blocks of one byte, a log of four records, a list of two slots and four places
 abbrev pub small : ℕ → Geometry
 small d = record { d = d; s = 2; b = 1; l = 4; h = 2; e = 4; layout = 0; parities = 2 }
-
--- the number that a call gets from a shelf that rows 1 to 3 let pass, and what it leaves
-abbrev pub answer : Geometry → Call → State → ℕ
-answer g c s = or_disputed g c s (code g c s)
-
-unfoldable pub after : Geometry → Call → State → State
-after g c s = choose (eqb (answer g c s) 0) (work g c s) s
 
 -- what calls leave, one after another
 unfoldable pub after_all : Geometry → List Call → State → State
@@ -84,22 +76,6 @@ k8 = gone (small 3) (after_all (small 3) (fail 0 ∷ fail 1 ∷ []) k4_logged)
 abbrev pub k9 : State
 k9 = gone (small 3) (after_all (small 3) (fail 5 ∷ fail 0 ∷ []) k4_logged)
 
--- K4's stripe with block 1 logged as 7, and disk 0 failed
-abbrev pub one_failed : State
-one_failed = gone (small 3) (after_all (small 3) (fail 0 ∷ []) k4_logged)
-
--- single bytes changed to 55: of stripe x that of disk i and that of parity p, and log record r; none where a number is too high. Record 0 is the Ori
--- of block 1, record 1 its Cur.
-abbrev pub struck : ℕ → ℕ → ℕ → ℕ → State → State
-struck x i p r s =
-    record {
-      disk = λ y k. choose (eqb y x && eqb k i) (55 ∷ []) (s.disk y k);
-      parity = λ y k. choose (eqb y x && eqb k p) (55 ∷ []) (s.parity y k);
-      log = record { value = λ k. choose (eqb k r) (55 ∷ []) (s.log.value k); next = s.log.next; ori = s.log.ori; cur = s.log.cur };
-      mode = s.mode;
-      failed = s.failed;
-    }
-
 -- K12 and K13: n blocks from address 0 on written to an unlisted stripe of d data disks: whether it is reconstruction-write, the records used and the
 -- blocks listed
 abbrev pub logged_by : ℕ → ℕ → List ℕ → List ℕ
@@ -119,46 +95,26 @@ examples =
     ex (make_buffer 2 2 1 (128 ∷ 128 ∷ 77 ∷ 88 ∷ [])) (128 ∷ 128 ∷ 0 ∷ 157 ∷ []) ∷
     ex (recover_buffer 2 2 1 0 2 (77 ∷ 128 ∷ 88 ∷ 157 ∷ [])) (128 ∷ 128 ∷ 0 ∷ 157 ∷ []) ∷
     -- K8: the number of a fetch of blocks 0 and 1, and what it gives
-    ex (answer (small 3) (fetch 0 2 2) k8 ∷ fetch_buffer (small 3) k8 0 2) (0 ∷ 1 ∷ 7 ∷ []) ∷
+    ex (code (small 3) (fetch 0 2 2) k8 ∷ fetch_buffer (small 3) k8 0 2) (0 ∷ 1 ∷ 7 ∷ []) ∷
     -- K9: the numbers of fetches of block 0 and of block 2, and what the latter gives
-    ex (answer (small 3) (fetch 0 1 1) k9 ∷ answer (small 3) (fetch 2 1 1) k9 ∷ fetch_buffer (small 3) k9 2 1) (14 ∷ 0 ∷ 3 ∷ []) ∷
+    ex (code (small 3) (fetch 0 1 1) k9 ∷ code (small 3) (fetch 2 1 1) k9 ∷ fetch_buffer (small 3) k9 2 1) (14 ∷ 0 ∷ 3 ∷ []) ∷
     -- plain reads there: of blocks 0 and 1 in K8's state; of block 0, of blocks 1 and 2 and what they give in K9's
-    ex (answer (small 3) (read 0 2 2) k8 ∷ answer (small 3) (read 0 1 1) k9 ∷ answer (small 3) (read 1 2 2) k9 ∷ read_buffer (small 3) k9 1 2) (16 ∷ 16 ∷ 0 ∷ 7 ∷ 3 ∷ []) ∷
+    ex (code (small 3) (read 0 2 2) k8 ∷ code (small 3) (read 0 1 1) k9 ∷ code (small 3) (read 1 2 2) k9 ∷ read_buffer (small 3) k9 1 2) (16 ∷ 16 ∷ 0 ∷ 7 ∷ 3 ∷ []) ∷
     -- put-backs there: in K8's state of disks 0 and 1, of disk 2, of Q, of the log and of the number above it; of disk 0 and of the failed log in K9's;
     -- and what the first leaves: one member failed, disk 1, and the mode
     ex
-    (answer (small 3) (put_back 0) k8 ∷ answer (small 3) (put_back 1) k8 ∷ answer (small 3) (put_back 2) k8 ∷ answer (small 3) (put_back 4) k8 ∷ answer (small 3) (put_back 5) k8
-    ∷ answer (small 3) (put_back 6) k8 ∷ answer (small 3) (put_back 0) k9 ∷ answer (small 3) (put_back 5) k9 ∷ [])
+    (code (small 3) (put_back 0) k8 ∷ code (small 3) (put_back 1) k8 ∷ code (small 3) (put_back 2) k8 ∷ code (small 3) (put_back 4) k8 ∷ code (small 3) (put_back 5) k8
+    ∷ code (small 3) (put_back 6) k8 ∷ code (small 3) (put_back 0) k9 ∷ code (small 3) (put_back 5) k9 ∷ [])
     (0 ∷ 0 ∷ 12 ∷ 12 ∷ 6 ∷ 6 ∷ 0 ∷ 6 ∷ []) ∷
     (let s = after (small 3) (put_back 0) k8 in ex (count 6 s.failed ∷ bit (s.failed 1) ∷ s.mode ∷ []) (1 ∷ 1 ∷ 1 ∷ [])) ∷
-    -- the second parity, with disk 0 failed: a fetch of block 0 where no byte is changed; P; Q; disk 2; the Ori of block 1; its disk; its Cur
-    ex
-    (answer (small 3) (fetch 0 1 1) one_failed ∷ answer (small 3) (fetch 0 1 1) (struck 0 9 0 9 one_failed) ∷ answer (small 3) (fetch 0 1 1) (struck 0 9 1 9 one_failed)
-    ∷ answer (small 3) (fetch 0 1 1) (struck 0 2 9 9 one_failed) ∷ answer (small 3) (fetch 0 1 1) (struck 0 9 9 0 one_failed)
-    ∷ answer (small 3) (fetch 0 1 1) (struck 0 1 9 9 one_failed) ∷ answer (small 3) (fetch 0 1 1) (struck 0 9 9 1 one_failed) ∷ [])
-    (0 ∷ 17 ∷ 17 ∷ 17 ∷ 17 ∷ 0 ∷ 0 ∷ []) ∷
-    -- with Q changed: a fetch of blocks 1 and 2, of all blocks, a rebuild, a read of blocks 1 and 2; a fetch of block 0 with P failed too; with Q failed too
-    (let s = struck 0 9 1 9 one_failed in
-    ex
-    (answer (small 3) (fetch 1 2 2) s ∷ answer (small 3) (fetch 0 6 6) s ∷ answer (small 3) rebuild s ∷ answer (small 3) (read 1 2 2) s
-    ∷ answer (small 3) (fetch 0 1 1) (after (small 3) (fail 3) s) ∷ answer (small 3) (fetch 0 1 1) (after (small 3) (fail 4) s) ∷ [])
-    (0 ∷ 17 ∷ 17 ∷ 0 ∷ 0 ∷ 0 ∷ [])) ∷
-    -- K8's state with Q changed, where disk 1 has failed too but its block has an Ori: a fetch of block 0, of block 1, a rebuild. K9's state with P of
-    -- stripe 1 changed: a fetch of block 3, of all blocks, a rebuild
-    (let s = struck 0 9 1 9 k8 in
-    let t = struck 1 9 0 9 k9 in
-    ex
-    (answer (small 3) (fetch 0 1 1) s ∷ answer (small 3) (fetch 1 1 1) s ∷ answer (small 3) rebuild s
-    ∷ answer (small 3) (fetch 3 1 1) t ∷ answer (small 3) (fetch 0 6 6) t ∷ answer (small 3) rebuild t ∷ [])
-    (17 ∷ 0 ∷ 17 ∷ 17 ∷ 14 ∷ 14 ∷ [])) ∷
     -- K10: the stripe and data index of address 4, the stripe and data index where a write to it stores, and the address there
     ex (stripe_of (small 3) 4 ∷ index_of (small 3) 4 ∷ first 2 (λ x. any 3 (written (small 3) 4 1 x)) ∷ first 3 (written (small 3) 4 1 1) ∷ address_of (small 3) 1 1 ∷ [])
     (1 ∷ 1 ∷ 1 ∷ 1 ∷ 4 ∷ []) ∷
     -- K11: reads of addresses 5 and 6, fetches, and writes
     ex
-    (answer (small 3) (read 5 1 1) (fresh_state (small 3)) ∷ answer (small 3) (read 6 1 1) (fresh_state (small 3))
-    ∷ answer (small 3) (fetch 5 1 1) (fresh_state (small 3)) ∷ answer (small 3) (fetch 6 1 1) (fresh_state (small 3))
-    ∷ answer (small 3) (write 5 1 (7 ∷ [])) (fresh_state (small 3)) ∷ answer (small 3) (write 6 1 (7 ∷ [])) (fresh_state (small 3)) ∷ [])
+    (code (small 3) (read 5 1 1) (fresh_state (small 3)) ∷ code (small 3) (read 6 1 1) (fresh_state (small 3))
+    ∷ code (small 3) (fetch 5 1 1) (fresh_state (small 3)) ∷ code (small 3) (fetch 6 1 1) (fresh_state (small 3))
+    ∷ code (small 3) (write 5 1 (7 ∷ [])) (fresh_state (small 3)) ∷ code (small 3) (write 6 1 (7 ∷ [])) (fresh_state (small 3)) ∷ [])
     (0 ∷ 4 ∷ 0 ∷ 4 ∷ 0 ∷ 4 ∷ []) ∷
     -- K12: reconstruction-write, 3 records, 3 listed
     ex (logged_by 3 2 (5 ∷ 6 ∷ [])) (1 ∷ 3 ∷ 3 ∷ []) ∷
@@ -167,8 +123,8 @@ examples =
     []
 
 pub all_hold : Holds examples
-unfolding bad_measures bad_length bad_member too_many make_code members_code recover_rows or_next calls.disputed recover_code accepted make_buffer recover_buffer double pow2 times_low times raised inverse from gen block byte_of blocks_of changed each_column pick sum one weight parity_p parity_q weight_in parity_of parity.made without rest_p rest_q from_p from_q from_both solved data_solved recovered fixed member_of choose bit count total any first lesser set_at blank block_parity other_missing worked_back every confirms confirmed is_some fresh_state row code_of settled made remade append_one append logged write_stripe write_to block_at disputed resynced rebuilt work disputes after after_all buffer_of
-all_hold = (refl, (refl, (refl, (refl, (refl, (refl, (refl, (refl, (refl, (refl, (refl, (refl, (refl, (refl, (refl, (refl, (refl, (refl, (refl, tt)))))))))))))))))))
+unfolding bad_measures bad_length bad_member too_many make_code members_code recover_code accepted make_buffer recover_buffer double pow2 times_low times raised inverse from gen block byte_of blocks_of changed each_column pick sum one weight parity_p parity_q weight_in parity_of parity.made without rest_p rest_q from_p from_q from_both solved data_solved recovered fixed member_of choose bit count total any first lesser set_at blank block_parity other_missing worked_back is_some fresh_state row code_of settled made remade append_one append logged write_stripe write_to block_at resynced rebuilt work after after_all buffer_of
+all_hold = (refl, (refl, (refl, (refl, (refl, (refl, (refl, (refl, (refl, (refl, (refl, (refl, (refl, (refl, (refl, (refl, tt))))))))))))))))
 
 -- ---- the printed session
 
@@ -225,7 +181,7 @@ by_shelf g [] s = []
 by_shelf g (l ∷ ls) s =
     let c = l.call in
     let t = after g c s in
-    line c (answer g c s) t.mode (marks_in g (listed t.log)) t.log.next (first_byte c (answer g c s) (read_buffer g s) (fetch_buffer g s))
+    line c (code g c s) t.mode (marks_in g (listed t.log)) t.log.next (first_byte c (code g c s) (read_buffer g s) (fetch_buffer g s))
     ∷ by_shelf g ls (gone g t)
 
 -- and by a book: marks for listed, u for next, and the block held for the one read
@@ -243,7 +199,7 @@ abbrev pub Runs : Geometry → List Line → Type 0
 Runs g ls = (by_shelf g ls (fresh_state g) ≡ ls) × (by_book g ls (fresh_book g) ≡ ls)
 
 pub as_printed : Runs (small 3) printed × Runs (small 3) fetched
-unfolding double pow2 times_low times raised inverse from gen block blocks_of pick sum one weight parity_p parity_q weight_in parity_of without rest_p rest_q from_p from_q from_both solved data_solved or_next fixed member_of choose bit count total any first lesser set_at blank block_parity other_missing worked_back every confirms confirmed is_some fresh_state row code_of settled made remade append_one append logged write_stripe write_to block_at disputed resynced rebuilt work disputes after buffer_of fresh_book closed marked used_then mark_stripe mark_to book_work book_after first_byte by_shelf by_book
+unfolding double pow2 times_low times raised inverse from gen block blocks_of pick sum one weight parity_p parity_q weight_in parity_of without rest_p rest_q from_p from_q from_both solved fixed member_of choose bit count total any first lesser set_at blank block_parity other_missing worked_back is_some fresh_state row code_of settled made remade append_one append logged write_stripe write_to block_at resynced rebuilt work after buffer_of fresh_book closed marked used_then mark_stripe mark_to book_work book_after first_byte by_shelf by_book
 as_printed = ((refl, refl), (refl, refl))
 
 -- ---- sessions in a layout and with a number of parities: d 2, s stripes, blocks of one byte
@@ -359,7 +315,7 @@ single_rotating =
 
 pub in_shapes : Runs (shaped 0 2 2) parity_rebuilt × (Runs (shaped 1 2 2) parity_rebuilt × (Runs (shaped 1 2 3) three_kinds × (Runs (shaped 1 2 3) withheld_there
     × (Runs (shaped 0 1 2) single_parity × (Runs (shaped 1 1 2) single_parity × Runs (shaped 1 1 3) single_rotating)))))
-unfolding double pow2 times_low times raised inverse from gen block blocks_of pick sum one weight parity_p parity_q weight_in parity_of without rest_p rest_q from_p from_q from_both solved data_solved or_next member_after after_p rotating fixed member_of choose bit count total any first lesser set_at blank block_parity other_missing worked_back every confirms confirmed is_some fresh_state row code_of settled made remade append_one append logged write_stripe write_to block_at disputed resynced rebuilt work disputes after buffer_of fresh_book closed marked used_then mark_stripe mark_to book_work book_after first_byte by_shelf by_book
+unfolding double pow2 times_low times raised inverse from gen block blocks_of pick sum one weight parity_p parity_q weight_in parity_of without rest_p rest_q from_p from_q from_both solved member_after after_p rotating fixed member_of choose bit count total any first lesser set_at blank block_parity other_missing worked_back is_some fresh_state row code_of settled made remade append_one append logged write_stripe write_to block_at resynced rebuilt work after buffer_of fresh_book closed marked used_then mark_stripe mark_to book_work book_after first_byte by_shelf by_book
 in_shapes = ((refl, refl), ((refl, refl), ((refl, refl), ((refl, refl), ((refl, refl), ((refl, refl), (refl, refl)))))))
 
 -- ---- the session's shelf as bytes
@@ -493,6 +449,6 @@ on_bytes =
     []
 
 pub bytes_hold : Holds on_bytes
-unfolding block byte_of from gen blocks_of or_next fixed member_of place choose bit count total any first lesser set_at blank block_parity other_missing worked_back every confirms confirmed is_some fresh_state row code_of settled made append_one append logged write_stripe write_to block_at disputed work disputes after after_all words bytes_of seek lookup entries_from entries put_front put_all encode rises has has_all is_record good_words good_entry all_good same valid said record_at state_of rows.bad_measures bad_record bad_lengths tries_list input_rows number_of flags_from role_of array_of log_of word_of entries_of list_of buffer_of format_code formatted
+unfolding block byte_of from gen blocks_of fixed member_of place choose bit count total any first lesser set_at blank block_parity other_missing worked_back is_some fresh_state row code_of settled made append_one append logged write_stripe write_to block_at work after after_all words bytes_of seek lookup entries_from entries put_front put_all encode rises has has_all is_record good_words good_entry all_good same valid said record_at state_of rows.bad_measures bad_record bad_lengths tries_list input_rows number_of flags_from role_of array_of log_of word_of entries_of list_of buffer_of format_code formatted
 bytes_hold =
     (refl, (refl, (refl, (refl, (refl, (refl, (refl, (refl, (refl, (refl, (refl, (refl, (refl, (refl, (refl, (refl, (refl, (refl, (refl, tt)))))))))))))))))))

@@ -1,29 +1,25 @@
--- With one parity neither 14 nor 17 occurs, whatever is lent and whatever is called: a record that passes row 1 has then at most one failed member, so
--- the log and a data disk have never both failed; and no second parity is there to disagree. Format and the stripe calls have no row 14,
--- and `stripe_recover` tests nothing with one parity, by its definition.
+-- With one parity 14 never occurs, whatever is lent and whatever is called: a record that passes row 1 has then at most one failed member, so the log
+-- and a data disk have never both failed. Format and the stripe calls have no row 14.
 -- Assumes nothing.
 use mathlib.Core.Bool.{Bool, false, ◌&&◌}
 use mathlib.Core.List.{List}
 use mathlib.Core.Logic.{◌≢◌}
-use mathlib.Core.Path.{◌≡◌, refl, sym, ap, ◌∙◌}
+use mathlib.Core.Path.{◌≡◌, sym, ap, ◌∙◌}
 use Prim.Native.Nat.{ℕ, ◌+◌, ◌≤◌, ◌<◌}
 use native.Mathlib.Nat.{mod-lt}
 use native.Mathlib.Omega.{arith}
 use lib.ListN.{length}
 use Rattle.stripe.proofs.Laws.{one_to_one}
 use Rattle.shelf.specs.Counting.{count}
-use Rattle.shelf.specs.Members.{all_members, log_member, member_at, addresses}
-use Rattle.shelf.specs.State.{State, stale}
-use Rattle.shelf.specs.Status.{Call, start, fail, put_back, write, read, fetch, resync, rebuild, new_log, full_resync, log_failed, withheld, fetch_withheld, data_withheld, code_of}
-use Rattle.shelf.specs.Calls.{disputes}
-use Rattle.shelf.specs.Lent.{Lent, Answered, state_of, flag_at, bad_measures, bad_record, input_rows, number_of, listed_by}
+use Rattle.shelf.specs.Members.{all_members, log_member, member_at}
+use Rattle.shelf.specs.State.{stale}
+use Rattle.shelf.specs.Status.{Call, log_failed, withheld, fetch_withheld, data_withheld, code_of}
+use Rattle.shelf.specs.Lent.{Lent, Answered, flag_at, bad_measures, bad_record, input_rows, number_of, listed_by}
 use Rattle.shelf.specs.declared.record.Geometry.{Geometry}
 use Rattle.shelf.specs.declared.record.Shelf.{Shelf}
 use Rattle.shelf.proofs.general.CountLaws.{none_any, no_two}
 use Rattle.shelf.proofs.general.TestLaws.{cases, clash, and_false}
 use Rattle.shelf.proofs.numbers.TableRows.{row_other, never_code}
-use Rattle.shelf.proofs.numbers.AnswerLaws.{other_number, answered_17}
-use Rattle.shelf.proofs.calls.ConfirmLaws.{single_agreed}
 use Rattle.shelf.proofs.numbers.InputLaws.{in_range_lem, few-flags}
 
 -- ---- one failed member at most: no block is withheld
@@ -45,7 +41,7 @@ module _ (g : Geometry) (f : ℕ → Bool) (m : ℕ → ℕ → Bool) (pos : 0 <
   none_rebuilt = none_any g.s _ (λ x _. none_any g.d _ (λ i h. none-withheld x i h))
 
   never : (mode : ℕ) (c : Call) → code_of g f mode m c ≢ 14
-  never mode = never_code g f mode m 14 (λ e. omega arith) (λ n _ _ u. u) (λ a n t. clash t (none_fetched a n)) (λ t. clash t none_rebuilt)
+  never mode = never_code g f mode m 14 (λ e. omega arith) (λ n _ u. u) (λ a n t. clash t (none_fetched a n)) (λ t. clash t none_rebuilt)
 
 -- ---- of any call
 
@@ -68,21 +64,4 @@ never_14 r na nl l c one =
 -- with one parity no promise of a call allows 14
 pub never_withheld : (h h' : Lent) (c : Call) (code : ℕ) → Answered h c code h' → h.shelf.geometry.parities ≡ 1 → code ≢ 14
 never_withheld h h' c code A one z =
-    other_number h c 14 (λ e. omega arith) (λ e. omega arith) (never_14 h.shelf (length h.array) (length h.log) h.list c one) (sym A.number ∙ z)
-
--- nor 17
-never_disputes : (g : Geometry) (s : State) (c : Call) → g.parities ≡ 1 → disputes g c s ≡ false
-unfolding disputes
-never_disputes g s start one = refl
-never_disputes g s (fail j) one = refl
-never_disputes g s (put_back j) one = refl
-never_disputes g s (write a n v) one = refl
-never_disputes g s (read a n len) one = refl
-never_disputes g s (fetch a n len) one = single_agreed g s a n (omega arith)
-never_disputes g s resync one = refl
-never_disputes g s rebuild one = single_agreed g s 0 (addresses g) (omega arith)
-never_disputes g s new_log one = refl
-never_disputes g s full_resync one = refl
-
-pub never_disputed : (h h' : Lent) (c : Call) (code : ℕ) → Answered h c code h' → h.shelf.geometry.parities ≡ 1 → code ≢ 17
-never_disputed h h' c code A one z = clash (answered_17 h c (sym z ∙ A.number)).1 (never_disputes h.shelf.geometry (state_of h) c one)
+    never_14 h.shelf (length h.array) (length h.log) h.list c one (sym A.number ∙ z)

@@ -19,7 +19,7 @@ use Rattle.stripe.proofs.Laws.{one_to_one}
 use Rattle.shelf.specs.Members.{array_members, log_member, all_members, member_at}
 use Rattle.shelf.specs.Counting.{count}
 use Rattle.shelf.specs.Status.{fail, put_back}
-use Rattle.shelf.specs.Calls.{work, disputes}
+use Rattle.shelf.specs.Calls.{work}
 use Rattle.shelf.specs.Lent.{Lent, lent, flag_at, array_block, member_block, state_of, tries_list, Answered}
 use Rattle.shelf.specs.Sequence.{Changed}
 use Rattle.shelf.specs.below.Records.{with_failed, with_renewed}
@@ -28,7 +28,6 @@ use Rattle.shelf.specs.declared.record.Shelf.{Shelf}
 use Rattle.shelf.proofs.general.TestLaws.{clash}
 use Rattle.shelf.proofs.numbers.TableRows.{zero_put_back, zero_fail}
 use Rattle.shelf.proofs.numbers.InputLaws.{Passed, passed_number}
-use Rattle.shelf.proofs.numbers.AnswerLaws.{accepted_number, undisputed_number}
 use Rattle.shelf.proofs.numbers.CodeLaws.{fail_bounds}
 use Rattle.shelf.proofs.numbers.FailureLaws.{reported_fine, report_undone, report_left}
 use Rattle.shelf.proofs.agreement.StatusLaws.{fail_passed}
@@ -74,18 +73,18 @@ module _ (h : Lent) (flags : length h.shelf.failed ≡ 19) (bytes : (i : ℕ) �
   -- what the report passed
   passed : (j ≤ log_member h.shelf.geometry) × ((flag_at h.shelf j ≡ false) × (count (all_members h.shelf.geometry) (flag_at h.shelf) < h.shelf.geometry.parities))
   unfolding state_of
-  passed = fail_passed h.shelf.geometry (state_of h) j (accepted_code h (fail j) (accepted_number h (fail j) A.number))
+  passed = fail_passed h.shelf.geometry (state_of h) j (accepted_code h (fail j) A.number)
 
   inputs : Passed h.shelf (length h.array) (length h.log) h.list
   unfolding tries_list
-  inputs = tried_passed h.shelf h.array h.log h.list (fail j) refl (accepted_number h (fail j) A.number)
+  inputs = tried_passed h.shelf h.array h.log h.list (fail j) refl A.number
 
   bound : j < 19
-  bound = (fail_bounds h.shelf (length h.array) (length h.log) h.list j (accepted_number h (fail j) A.number)).1
+  bound = (fail_bounds h.shelf (length h.array) (length h.log) h.list j A.number).1
 
   -- it leaves the buffers
   report_is : h₁ ≡ lent (with_failed h.shelf j) h.array h.log h.list
-  report_is = (one_answer h (fail j) 0 0 h₁ _ A (fail_answered h.shelf h.array h.log h.list flags bytes j bound (accepted_number h (fail j) A.number))).1
+  report_is = (one_answer h (fail j) 0 0 h₁ _ A (fail_answered h.shelf h.array h.log h.list flags bytes j bound A.number)).1
 
   module _ (h₂ : Lent) (C : Changed h.shelf.geometry h₁ h₂) where
     -- then failed members' bytes change
@@ -135,10 +134,10 @@ back_is : (h : Lent) → length h.shelf.failed ≡ 19 → ((i : ℕ) → get_or 
 unfolding work state_of tries_list
 back_is h flags bytes P j hj e code h' A =
     let zero = passed_number h.shelf (length h.array) (length h.log) h.list P (put_back j) ∙ zero_put_back h.shelf.geometry (flag_at h.shelf) _ _ j hj e in
-    let accepted : code ≡ 0 = A.number ∙ undisputed_number h (put_back j) (unfold disputes in refl) ∙ zero in (
+    let accepted : code ≡ 0 = A.number ∙ zero in (
       accepted,
       (one_answer h (put_back j) code 0 h' _ A
-          (renewed_answered h.shelf h.array h.log h.list flags bytes (put_back j) j (omega (arith, hj, P.range.d_most, P.range.parities_most)) refl refl (unfold disputes in refl) (sym zero))).1,
+          (renewed_answered h.shelf h.array h.log h.list flags bytes (put_back j) j (omega (arith, hj, P.range.d_most, P.range.parities_most)) refl refl (sym zero))).1,
     )
 
 -- ---- put back

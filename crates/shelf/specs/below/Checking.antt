@@ -3,7 +3,7 @@
 use Rattle.std.specs.Prelude.{ℕ, zero, suc, ◌+◌, ◌-◌, ◌*◌, ◌%◌, ◌≤◌, ◌<◌, Bool, true, false, ◌&&◌, ◌||◌, List, ◌≡◌, ltb, leb, eqb, get_or}
 use Rattle.shelf.specs.declared.record.Geometry.{Geometry}
 use Rattle.shelf.specs.Counting.{choose}
-use Rattle.stripe.specs.Parity.{every}
+use Rattle.shelf.specs.below.Tables.{every}
 use Rattle.shelf.specs.HashList.{none_word, address_at, ori_at, cur_at, next_at, is_record, good_words}
 
 -- ---- the places

@@ -1,13 +1,14 @@
 -- Words for the contracts of the functions that read and fetch are made of: what they ask of what is lent, and the blocks of a
 -- stripe told by numbers.
 -- Assumes nothing.
-use Rattle.std.specs.Prelude.{Bool, true, not, ◌&&◌, List, ◌≢◌, ◌≡◌, ℕ, zero, suc, ◌+◌, ◌*◌, ◌≤◌, ◌<◌, eqb, ltb, length}
+use Rattle.std.specs.Prelude.{Bool, true, not, ◌&&◌, List, ◌≡◌, ℕ, zero, suc, ◌+◌, ◌*◌, ◌≤◌, ◌<◌, eqb, ltb, length}
 use Rattle.stripe.specs.Blocks.{gen, put}
 use Rattle.stripe.specs.Parity.{solved}
 use Rattle.stripe.specs.below.Tables.{Tabled}
+use Rattle.stripe.specs.below.Steps.{Products}
 use Rattle.shelf.specs.Counting.{choose}
 use Rattle.shelf.specs.below.Tables.{Tests}
-use Rattle.shelf.specs.Members.{InRange, array_members, place_at, stripe_of, index_of, address_of, column, worked_back}
+use Rattle.shelf.specs.Members.{InRange, array_members, place_at, address_of, column, worked_back}
 use Rattle.shelf.specs.State.{is_some}
 use Rattle.shelf.specs.Calls.{or_else, original, missing, block_at}
 use Rattle.shelf.specs.Words.{words}
@@ -52,14 +53,15 @@ pub record SourcesOf (r : Shelf) (l : List ℕ) (x : ℕ) (s : Sources) : Type 0
   pub numbers : Tabled (array_members r.geometry) (original_place r.geometry l x) s.originals
   pub lacking : Tests (array_members r.geometry) (missing_by r l x) s.missing
 
--- what is lent is ready, and the working block has the length of a block
-pub record Working (h : Lent) (work : List ℕ) : Type 0 where
+-- what is lent is ready, the working block has the length of a block, and the table of products is one
+pub record Working (h : Lent) (work table : List ℕ) : Type 0 where
   pub ready : Ready h
   pub block : length work ≡ h.shelf.geometry.b
+  pub products : Products table
 
 -- and so for the block with data index i of stripe x, whose sources are s
-pub record WorkingAt (h : Lent) (x i : ℕ) (s : Sources) (work : List ℕ) : Type 0 where
-  pub working : Working h work
+pub record WorkingAt (h : Lent) (x i : ℕ) (s : Sources) (work table : List ℕ) : Type 0 where
+  pub working : Working h work table
   pub stripe : x < h.shelf.geometry.s
   pub index : i < h.shelf.geometry.d
   pub sources : SourcesOf h.shelf h.list x s
@@ -75,10 +77,6 @@ lost_block h x i = worked_back h.shelf.geometry (missing h.shelf.geometry (state
 
 abbrev pub served_block : Lent → ℕ → ℕ → List ℕ
 served_block h x i = block_at h.shelf.geometry (state_of h) x i
-
--- the working block has the block of address k as a fetch gives it, unless k is none
-abbrev pub Known : Lent → ℕ → List ℕ → Type 0
-Known h k work = k ≢ none_word → work ≡ served_block h (stripe_of h.shelf.geometry k) (index_of h.shelf.geometry k)
 
 -- out with m blocks of stripe x, from data index i on, as a fetch gives them, put in from its block j on
 unfoldable pub served_to : Lent → ℕ → ℕ → ℕ → ℕ → List ℕ → List ℕ

@@ -1,10 +1,10 @@
 -- What the loops below the calls gather, byte by byte: words for the contracts of the functions that the calls are made of.
 -- Assumes nothing.
-use Rattle.std.specs.Prelude.{Bool, ◌||◌, List, ◌⊎◌, ◌≢◌, ◌≡◌, ℕ, zero, suc, ◌+◌, ◌*◌, ◌/◌, ◌%◌, ◌≤◌, ◌<◌, eqb, ltb, length, get_or}
+use Rattle.std.specs.Prelude.{Bool, ◌||◌, List, ◌⊎◌, ◌≢◌, ◌≡◌, ℕ, ◌+◌, ◌*◌, ◌≤◌, ◌<◌, eqb, ltb, length, get_or}
 use Rattle.std.specs.Int.Bits.{bit_xor}
-use Rattle.field.specs.Field.{double, times, inverse}
+use Rattle.field.specs.Field.{double, times, inverse, Multiples}
 use Rattle.stripe.specs.Parity.{pick, weight, parity_p, parity_q, parity_of, made, without, rest_p, data_solved}
-use Rattle.stripe.specs.Places.{in_order, numbered, column_at, by_column}
+use Rattle.stripe.specs.Places.{in_order}
 use Rattle.stripe.specs.below.Tables.{Tabled, Held, Whole}
 
 -- ---- rows of bytes
@@ -38,21 +38,6 @@ doubled x j = double (get_or x j 0)
 unfoldable pub scaled : ℕ → List ℕ → ℕ → ℕ
 scaled c x j = times c (get_or x j 0)
 
--- what the n top bits of the byte v give to a product, where t has the multiples of a constant by 1, 2, 4 and so on: the sum of those whose bits are set
-unfoldable pub top_bits : List ℕ → ℕ → ℕ → ℕ
-top_bits t zero v = 0
-top_bits t (suc n) v = bit_xor (v / 128 * get_or t n 0) (top_bits t n (v % 128 * 2))
-
--- byte j of x multiplied so; of s with m added where the top bit of v is set; of v with its bits moved up by one
-unfoldable pub by_multiples : List ℕ → List ℕ → ℕ → ℕ
-by_multiples t x j = top_bits t 8 (get_or x j 0)
-
-unfoldable pub plus_top : ℕ → List ℕ → List ℕ → ℕ → ℕ
-plus_top m v s j = bit_xor (get_or s j 0) (get_or v j 0 / 128 * m)
-
-unfoldable pub moved_up : List ℕ → ℕ → ℕ
-moved_up v j = get_or v j 0 % 128 * 2
-
 -- a place out of the w bytes from at on
 abbrev pub Outside : ℕ → ℕ → ℕ → Type 0
 Outside i at w = (i < at) ⊎ (at + w ≤ i)
@@ -66,20 +51,6 @@ pub record PutRow (at w : ℕ) (x a₀ a : List ℕ) : Type 0 where
   pub same_length : length a ≡ length a₀
   pub inside : (j : ℕ) → j < w → get_or a (at + j) 0 ≡ get_or x j 0
   pub others : (i : ℕ) → Outside i at w → get_or a i 0 ≡ get_or a₀ i 0
-
--- the buffer a is a₀ with f's bytes from o to o + w - 1
-pub record Laid (o w : ℕ) (f : ℕ → ℕ) (a₀ a : List ℕ) : Type 0 where
-  pub same_length : length a ≡ length a₀
-  pub inside : (j : ℕ) → j < w → get_or a (o + j) 0 ≡ f (o + j)
-  pub others : (i : ℕ) → Outside i o w → get_or a i 0 ≡ get_or a₀ i 0
-
--- the test from place o on
-unfoldable pub test_later : (ℕ → Bool) → ℕ → ℕ → Bool
-test_later t o j = t (o + j)
-
--- whether byte j of x is f's
-unfoldable pub same : (ℕ → ℕ) → List ℕ → ℕ → Bool
-same f x j = eqb (f j) (get_or x j 0)
 
 -- ---- parity, made some columns at a time; the table at has the offset of each role's block
 
@@ -118,24 +89,6 @@ pub record Gathers (d n b : ℕ) (array log ns work : List ℕ) : Type 0 where
   pub held : Held (d + 1) b (length array + length log) ns
   pub working : length work ≡ b
 
--- the same for columns o to o + w - 1, at most 128, summed up in a row of at least w bytes
-pub record Columns (d n b o w : ℕ) (array log ns row : List ℕ) : Type 0 where
-  pub data_most : d ≤ 16
-  pub whole : length array ≡ n * b
-  pub held : Held (d + 1) b (length array + length log) ns
-  pub fits : o + w ≤ b
-  pub narrow : w ≤ 128
-  pub room : w ≤ length row
-
--- where y is other data than x, work has P + Pxy in columns o to o + w - 1
-pub record Standing (d x y b o w : ℕ) (a ns work : List ℕ) : Type 0 where
-  pub long : length work ≡ b
-  pub has : x ≢ y → y < d → (j : ℕ) → j < w → get_or work (o + j) 0 ≡ by_column (rest_p d x y) (numbered ns) b a (o + j)
-
--- the test h of column j of the stripe whose role i is block number (at i) of a buffer
-unfoldable pub by_test : ((ℕ → ℕ) → Bool) → (ℕ → ℕ) → ℕ → List ℕ → ℕ → Bool
-by_test h at b a j = h (column_at at b a j)
-
 -- what data i gives to the sum for P where x and y are missing, and the sum
 unfoldable pub there : ℕ → ℕ → ℕ → (ℕ → ℕ) → ℕ
 there x y i D = without x y D i
@@ -159,6 +112,16 @@ comes_from_p d x y = eqb x y || ltb d y
 
 unfoldable pub coefficient : ℕ → ℕ → ℕ → ℕ
 coefficient d x y = pick (ltb y d) (bit_xor (weight x) (weight y)) (weight x)
+
+-- A table of products tells by the two bytes behind its entries which constant is its own: the inverse of that coefficient for data x and y, y being
+-- 16 where it is not data. A table of zeros is that of 0: equal weights add up to 0, whose inverse is 0 here.
+unfoldable pub constant : List ℕ → ℕ
+constant t = inverse (coefficient 16 (get_or t 256 0) (get_or t 257 0))
+
+-- entry k of the table is its constant times k, for every byte k
+pub record Products (t : List ℕ) : Type 0 where
+  pub long : length t ≡ 258
+  pub multiples : Multiples (constant t) t
 
 -- byte j of w with f's added, divided by that coefficient
 unfoldable pub quotient : ℕ → ℕ → ℕ → (ℕ → ℕ) → List ℕ → ℕ → ℕ

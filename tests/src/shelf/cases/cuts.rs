@@ -139,53 +139,24 @@ fn note(member: usize, shelf: &mut Shelf, stand: &mut Stand) -> Result<(), Strin
     }
 }
 
-/// How many rebuilds were disputed, so that one member more was noted as failed, or so that none could be.
-type Disputed = [usize; 2];
-
-/// A rebuild on the way back where members have failed besides. If the cut left parities that disagree, so that it is
-/// disputed, one member more is noted as failed where that can be, and it is made again. Hands back the members that
-/// have failed then; none where it is withheld, or still disputed.
-fn rebuilt(
-    pair: &mut Pair,
-    disputed: &mut Disputed,
-    stand: &mut Stand,
-    random: &mut Random,
-) -> Result<Option<Vec<usize>>, String> {
-    let log = pair.shelf.record.measures.log();
-    loop {
-        let (failed, left) = (pair.shelf.failed(), budget(&pair.shelf.record));
-        pair.spoil();
-        let code = made(Call::Rebuild, &mut pair.shelf, stand)?;
-        disputed[usize::from(left == 0)] += usize::from(code == 17);
-        match code {
-            0 => return Ok(Some(failed)),
-            14 if failed.contains(&log) => return Ok(None),
-            17 if left == 0 => return Ok(None),
-            17 => note(some_members(pair, 1, random)[0], &mut pair.shelf, stand)?,
-            code => return Err(format!("the rebuild gets {code}; the shelf: {}", pair.shelf)),
-        }
-    }
-}
-
 /// The way back where members fail besides: their failures with record and list from before the call, a rebuild, and a
-/// full resync. Hands back how many blocks are lost; none where there is no rebuild. Fails unless these are blocks of
-/// the failed members in the stripes that the calls store into, and unlisted ones where there is no write among them.
-fn with_failures(
-    trail: &Trail,
-    disputed: &mut Disputed,
-    stand: &mut Stand,
-    random: &mut Random,
-) -> Result<Option<usize>, String> {
+/// full resync. Hands back how many blocks are lost; none where the rebuild is withheld. Fails unless these are blocks
+/// of those members in the stripes that the calls store into, and unlisted ones where there is no write among them.
+fn with_failures(trail: &Trail, stand: &mut Stand, random: &mut Random) -> Result<Option<usize>, String> {
     let Trail { states, stored, has_write, .. } = trail;
     let mut shelf = Shelf { list: states[0].shelf.list.clone(), ..cut(states, random) };
     let count = 1 + pick(budget(&shelf.record), random);
-    for member in some_members(&states[0], count, random) {
+    let failed = some_members(&states[0], count, random);
+    for &member in &failed {
         note(member, &mut shelf, stand)?;
     }
     let mut pair = Pair::of(shelf, states[0].book.clone());
-    let Some(failed) = rebuilt(&mut pair, disputed, stand, random)? else {
-        return Ok(None);
-    };
+    pair.spoil();
+    match made(Call::Rebuild, &mut pair.shelf, stand)? {
+        0 => {}
+        14 if pair.shelf.record.failed[pair.shelf.record.measures.log()] != 0 => return Ok(None),
+        code => return Err(format!("the rebuild gets {code}; the shelf: {}", pair.shelf)),
+    }
     let (pair, mut lost) = (resynced(pair.shelf, stand, random)?, 0);
     let m = pair.shelf.record.measures;
     let may_be_lost = |address: usize| {
@@ -272,14 +243,12 @@ fn with_another(trail: &[Pair], stand: &mut Stand, random: &mut Random) -> Resul
 
 /// How many cuts there were, by layout, parities, kind, mode and whether the log had failed. Then by layout and the
 /// parities less one: how many blocks were lost because members failed besides; and how many stripes may lose a block
-/// in a repeated rebuild, and did. Then how many rebuilds were disputed, and how many blocks were lost where one member
-/// more failed before it was repeated.
+/// in a repeated rebuild, and did. Then how many blocks were lost where one member more failed before it was repeated.
 #[derive(Default)]
 struct Counts {
     cuts: BTreeMap<(usize, usize, Kind, usize, bool), usize>,
     lost: [[usize; 2]; 2],
     repeated: [[[usize; 2]; 2]; 2],
-    disputed: Disputed,
     besides: usize,
 }
 
@@ -300,9 +269,6 @@ impl Counts {
         }
         let is_real = |counts: [usize; 2]| counts.iter().all(|&count| count >= AT_LEAST);
         let is_right = |[one, two]: [[usize; 2]; 2]| one == [0, 0] && is_real(two);
-        if !is_real(self.disputed) {
-            return Err(format!("{:?} rebuilds were disputed, not {AT_LEAST} of either kind", self.disputed));
-        }
         if self.besides < AT_LEAST || !self.lost.into_iter().all(is_real) || !self.repeated.into_iter().all(is_right) {
             return Err(format!("{:?} blocks lost, {:?} stripes of repeated rebuilds", self.lost, self.repeated));
         }
@@ -320,7 +286,7 @@ fn tried(kind: Kind, pair: &Pair, stand: &mut Stand, counts: &mut Counts, random
     match kind {
         Write | Resync | FullResync | Several => by_full_resync(states, stand, random)?,
         FailingWrite | FailingResync | FailingFullResync | FailingSeveral => {
-            match with_failures(&trail, &mut counts.disputed, stand, random)? {
+            match with_failures(&trail, stand, random)? {
                 Some(lost) => counts.lost[m.layout][m.parities - 1] += lost,
                 None => return Ok(()),
             }
@@ -351,14 +317,11 @@ pub fn group(seed: u64) -> Outcome {
     Ok(format!(
         "{} cuts of writes, resyncs and rebuilds on {SHELVES} shelves, each kind {least} times at least by layout, \
          parities, mode and log; no block but those of a cut write has changed after a full resync; where members fail \
-         besides, {} of their blocks in stripes stored into are lost, and no other, {} rebuilds being disputed until \
-         one member more is noted as failed, and {} where none can be; a repeated rebuild leaves what the whole one \
-         left, but in {differ} of {may_lose} stripes that are stale and have parity and an unlisted block on failed \
-         members, and {} blocks of such where one member more fails; {} calls; seed {seed}",
+         besides, {} of their blocks in stripes stored into are lost, and no other; a repeated rebuild leaves what the \
+         whole one left, but in {differ} of {may_lose} stripes that are stale and have parity and an unlisted block on \
+         failed members, and {} blocks of such where one member more fails; {} calls; seed {seed}",
         counts.cuts.values().sum::<usize>(),
         counts.lost.iter().flatten().sum::<usize>(),
-        counts.disputed[0],
-        counts.disputed[1],
         counts.besides,
         stand.calls
     ))

@@ -3,7 +3,6 @@
 use crate::random::Random;
 use crate::shelf::harness::calls::{fetch, read, write, Buffer, Call, Measures, Record, Shelf};
 use crate::shelf::harness::damage::damage_list;
-use crate::shelf::harness::flips::agree;
 use crate::shelf::harness::lists::{self, pick};
 use crate::shelf::harness::stand::Stand;
 use crate::shelf::model::layout::List;
@@ -41,8 +40,7 @@ enum Used {
     Most,
 }
 
-/// A shelf of this layout and with so many parities of which so much is used. If it is lent whole, its parities agree
-/// with the originals.
+/// A shelf of this layout and with so many parities of which so much is used.
 fn shelf(measures: [usize; 6], [layout, parities]: [usize; 2], used: Used, random: &mut Random) -> Shelf {
     let [d, s, b, l, h, e] = measures;
     let most = e.min(d * s);
@@ -56,11 +54,7 @@ fn shelf(measures: [usize; 6], [layout, parities]: [usize; 2], used: Used, rando
     let lent = |length: u128| Buffer { bytes: filled(length), told: length as usize };
     let [array, log, _] = lengths(record.measures).map(lent);
     let list = Buffer::of(lists::valid(&record, random).bytes());
-    let mut shelf = Shelf { record, array, log, list, data: Buffer::empty() };
-    if shelf.array.bytes.len() == shelf.array.told {
-        agree(&mut shelf);
-    }
-    shelf
+    Shelf { record, array, log, list, data: Buffer::empty() }
 }
 
 /// So many bytes that count up, none of them 0; one byte where they would be more than 2^25.
@@ -181,25 +175,6 @@ fn served(shelf: &Shelf, stand: &mut Stand) -> Result<(), String> {
     Ok(())
 }
 
-/// Has data index 0 of the last stripe fail alone, on a shelf lent whole, and flips the last byte of each other role of
-/// this stripe in turn. Fails unless a fetch of the last stripe and a rebuild do as the model does. Hands back how many
-/// of them were disputed.
-fn disputed(shelf: &Shelf, stand: &mut Stand) -> Result<usize, String> {
-    let (m, mut count) = (shelf.record.measures, 0);
-    let members = roles::members(m, m.s - 1);
-    let mut shelf = with_failed(shelf, &members[..1]);
-    shelf.data = Buffer::of(filled((m.d * m.b) as u128));
-    for member in &members[1..] {
-        let last = (member + 1) * m.s * m.b - 1;
-        shelf.array.bytes[last] ^= 128;
-        for call in [fetch((m.s - 1) * m.d, m.d), Call::Rebuild].into_iter().filter(|_| !is_slow(m)) {
-            count += usize::from(stand.as_model(call, &shelf)?.code() == 17);
-        }
-        shelf.array.bytes[last] ^= 128;
-    }
-    Ok(count)
-}
-
 /// Makes writes at the end of the log, one after another, then resyncs, as the model does them.
 fn worn_out(mut shelf: Shelf, stand: &mut Stand, random: &mut Random) -> Result<(), String> {
     let m = shelf.record.measures;
@@ -264,12 +239,11 @@ fn cases(all: &[[usize; 6]], used: &[Used], [layout, parities]: [usize; 2]) -> V
     indices.filter(is_tried).map(|(at, how)| (all[at], used[how])).collect()
 }
 
-/// Tries the shelves at the limits in this layout and with so many parities. Hands back how many there are, and how
-/// many calls on them were disputed.
-fn all(kind: [usize; 2], counts: &mut Damaged, stand: &mut Stand, random: &mut Random) -> Result<[usize; 2], String> {
+/// Tries the shelves at the limits in this layout and with so many parities. Hands back how many there are.
+fn all(kind: [usize; 2], counts: &mut Damaged, stand: &mut Stand, random: &mut Random) -> Result<usize, String> {
     let whole = cases(&WHOLE, &[Used::Nothing, Used::All, Used::Most], kind);
     let told = cases(&TOLD, &[Used::Nothing, Used::All], kind);
-    let mut tried_and_disputed = [whole.len() + told.len(), 0];
+    let shelves = whole.len() + told.len();
     for (measures, used) in whole {
         let shelf = shelf(measures, kind, used, random);
         damaged(&shelf, counts, stand, random)?;
@@ -278,7 +252,6 @@ fn all(kind: [usize; 2], counts: &mut Damaged, stand: &mut Stand, random: &mut R
             stand.as_model(Call::Format, &shelf)?;
         }
         served(&shelf, stand)?;
-        tried_and_disputed[1] += disputed(&shelf, stand)?;
         worn_out(shelf, stand, random)?;
     }
     for (measures, used) in told {
@@ -287,23 +260,19 @@ fn all(kind: [usize; 2], counts: &mut Damaged, stand: &mut Stand, random: &mut R
         tried(&shelf, stand)?;
         refused(&shelf, stand)?;
     }
-    Ok(tried_and_disputed)
+    Ok(shelves)
 }
 
 /// Tries the shelves in both layouts and with both counts of parities. Fails unless a list was damaged in each way in
-/// either layout, and calls were disputed with two parities, and none with one.
+/// either layout.
 pub fn group(seed: u64) -> Outcome {
     let random = &mut Random::new(seed, 7);
     let stand = &mut Stand::default();
-    let (mut least, mut shelves, mut disputed) = (usize::MAX, 0, 0);
+    let (mut least, mut shelves) = (usize::MAX, 0);
     for layout in [0, 1] {
         let mut counts = [0; OF_LIST.len()];
         for parities in [1, 2] {
-            let [tried, found] = all([layout, parities], &mut counts, stand, random)?;
-            if (found > 0) != (parities == 2) {
-                return Err(format!("{found} calls were disputed in layout {layout} with parities {parities}"));
-            }
-            (shelves, disputed) = (shelves + tried, disputed + found);
+            shelves += all([layout, parities], &mut counts, stand, random)?;
         }
         if let Some(at) = counts.iter().position(|&count| count == 0) {
             return Err(format!("no list was damaged to have {:?} in layout {layout}", OF_LIST[at]));
@@ -311,8 +280,8 @@ pub fn group(seed: u64) -> Outcome {
         least = counts.into_iter().fold(least, usize::min);
     }
     Ok(format!(
-        "{} calls on {shelves} shelves at the limits in both layouts with both counts of parities, {disputed} \
-         disputed, {least} lists at least damaged in each way; seed {seed}",
+        "{} calls on {shelves} shelves at the limits in both layouts with both counts of parities, {least} lists at \
+         least damaged in each way; seed {seed}",
         stand.calls
     ))
 }

@@ -1,7 +1,6 @@
 //! The groups of cases, one in each file; beside them the trails, which cuts and steps share.
 
 pub mod cuts;
-pub mod disputed;
 pub mod limits;
 pub mod marked;
 pub mod order;

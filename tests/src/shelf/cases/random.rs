@@ -1,18 +1,16 @@
 //! Random shelves against the model: sound ones, ones damaged in one or two ways, ones whose record names the other
-//! count of parities, and nonsense. Their array and log hold any bytes, or parities that agree with the originals, or
-//! such with a byte flipped.
+//! count of parities, and nonsense.
 
 use crate::random::Random;
 use crate::shelf::harness::calls::{fetch, read, write, Buffer, Call, Measures, Record, Shelf};
 use crate::shelf::harness::damage::damage_list;
-use crate::shelf::harness::flips::{agree, flip_one};
 use crate::shelf::harness::lists::{self, pick};
 use crate::shelf::harness::reads;
 use crate::shelf::harness::records;
 use crate::shelf::harness::requests;
 use crate::shelf::harness::stand::Stand;
 use crate::shelf::harness::tally::{Tally, CALLS};
-use crate::shelf::model::layout::{self, List};
+use crate::shelf::model::layout::List;
 use crate::shelf::model::numbers::{self, Fault, OF_LENGTHS, OF_LIST, OF_MEASURES, OF_RECORD};
 use crate::Outcome;
 
@@ -149,39 +147,20 @@ fn nonsense(random: &mut Random) -> Plan {
     }
 }
 
-/// Has the parities of a shelf agree with its originals, mostly, and then at times flips a byte; nothing where the
-/// originals can't be told.
-fn settle(shelf: &mut Shelf, random: &mut Random) {
-    let r = &shelf.record;
-    if !numbers::in_ranges(r.measures) {
-        return;
-    }
-    let lent = [&shelf.array, &shelf.log, &shelf.list].map(|buffer| buffer.bytes.len() as u128);
-    let is_right = lent == numbers::lengths(r.measures) && r.next <= r.measures.l;
-    if is_right && layout::is_right(r, &shelf.list.bytes) && random.below(4) != 0 {
-        agree(shelf);
-        if random.below(2) == 0 {
-            flip_one(shelf, random);
-        }
-    }
-}
-
-/// The shelf of a plan: random bytes in array and log, which are then settled. A buffer has as many bytes as are told
-/// of it; one of which more is told than any that may be accepted has a part.
+/// The shelf of a plan: random bytes in array and log. A buffer has as many bytes as are told of it; one of which more
+/// is told than any that may be accepted has a part.
 fn shelf(plan: Plan, random: &mut Random) -> Shelf {
     let lent = |told: usize| if told <= WHOLE { told } else { PART };
     let [array, log, list] = plan.told;
     let mut bytes = plan.list.bytes();
     bytes.resize(lent(list), 0xff);
-    let mut shelf = Shelf {
+    Shelf {
         record: plan.record,
         array: Buffer { bytes: random.bytes(lent(array)), told: array },
         log: Buffer { bytes: random.bytes(lent(log)), told: log },
         list: Buffer { bytes, told: list },
         data: Buffer::empty(),
-    };
-    settle(&mut shelf, random);
-    shelf
+    }
 }
 
 /// A member to fail or to put back: mostly one that is there, else next to the last one or nonsense.

@@ -1,21 +1,19 @@
 //! Random sequences of calls from a fresh shelf, against the model and against the book. Each call gets the record and
 //! the buffers as the one before left them, save that the bytes of failed members change at will, and that a member
 //! which is put back holds what it held when it was reported. Some sequences end with calls after a member was put back
-//! with other bytes: then the blocks are the model's, and the book has the numbers alone, but 17. No other call gets
-//! that; now and then one is made on a copy of the shelf with a byte flipped, which may. Now and then the list is
+//! with other bytes: then the blocks are the model's, and the book has the numbers alone. Now and then the list is
 //! arranged in another way that says the same: the call is first made on that list, and must be refused with 3. Each
 //! plain read is made beside a recovering one too.
 
 use crate::random::Random;
 use crate::shelf::harness::calls::{fetch, read, write, Buffer, Call, Measures, Record, Shelf};
-use crate::shelf::harness::flips::flip_one;
 use crate::shelf::harness::lists::{self, one_of, pick};
 use crate::shelf::harness::pair::Pair;
 use crate::shelf::harness::reads;
 use crate::shelf::harness::records;
 use crate::shelf::harness::requests::{self, Request};
 use crate::shelf::harness::stand::Stand;
-use crate::shelf::harness::tally::{self, CALLS, CODES, DISPUTED};
+use crate::shelf::harness::tally::{self, CALLS, CODES};
 use crate::shelf::model::book::Book;
 use crate::shelf::model::layout::List;
 use crate::shelf::model::numbers::NONE;
@@ -191,14 +189,6 @@ fn rearranged(call: Call, shelf: &Shelf, stand: &mut Stand, random: &mut Random)
     }
 }
 
-/// Makes a call on a copy of the shelf with a byte of array or log flipped. Fails unless it does as the model does.
-/// Hands back whether it is disputed.
-fn damaged(call: Call, shelf: &Shelf, stand: &mut Stand, random: &mut Random) -> Result<bool, String> {
-    let mut shelf = shelf.clone();
-    flip_one(&mut shelf, random);
-    Ok(stand.as_model(call, &shelf)?.code() == DISPUTED)
-}
-
 /// Resyncs a shelf without failed array members to the end: as many calls as stripes wait, and no fewer.
 pub fn resynced(pair: &mut Pair, stand: &mut Stand) -> Result<(), String> {
     let waiting = pair.book.awaiting();
@@ -213,31 +203,29 @@ pub fn resynced(pair: &mut Pair, stand: &mut Stand) -> Result<(), String> {
 
 /// Puts a failed member of the array back, if there is one, with other bytes than it had when it was reported, and
 /// makes some calls after it. Fails unless they do as the model does, with the numbers, counts, members and marks of
-/// the book, save that some are disputed. Hands back how many are; none where there was no such member.
-fn unlike(pair: &mut Pair, busy: bool, stand: &mut Stand, random: &mut Random) -> Result<Option<usize>, String> {
+/// the book. Hands back whether there was such a member.
+fn unlike(pair: &mut Pair, busy: bool, stand: &mut Stand, random: &mut Random) -> Result<bool, String> {
     let log = pair.shelf.record.measures.log();
     let failed: Vec<usize> = pair.shelf.failed().into_iter().filter(|&member| member < log).collect();
     let Some(member) = one_of(&failed, random) else {
-        return Ok(None);
+        return Ok(false);
     };
     random.fill(pair.shelf.member(member));
     if !pair.is_changed(member) {
         pair.shelf.member(member)[0] ^= 1;
     }
     pair.numbered(Call::PutBack(member), Buffer::empty(), stand)?;
-    let mut disputed = 0;
     for _ in 0..pick(LAST, random) {
         garble(&mut pair.shelf, random);
         let (call, data) = next_call(&pair.shelf, busy, random);
-        disputed += usize::from(pair.numbered(call, data, stand)? == DISPUTED);
+        pair.numbered(call, data, stand)?;
     }
-    Ok(Some(disputed))
+    Ok(true)
 }
 
 /// What the sequences of a layout and a count of parities came through: each call by number, how many of each kind were
 /// refused for the arrangement of the list, how often each member was noted as failed, and put back, with d 2 and with
-/// d 16, how many were put back after their bytes had changed and were given back, and with other bytes, and how many
-/// calls were disputed after that, and with a byte flipped.
+/// d 16, and how many were put back after their bytes had changed and were given back, and with other bytes.
 #[derive(Default)]
 struct Counts {
     given: [[usize; CODES]; CALLS],
@@ -245,7 +233,6 @@ struct Counts {
     noted: [[[usize; 19]; 2]; 2],
     returned: usize,
     unlike: usize,
-    disputed: [usize; 2],
 }
 
 impl Counts {
@@ -270,10 +257,9 @@ impl Counts {
         self.rearranged[tally::index(call)] += usize::from(code == Some(3));
     }
 
-    /// Fails unless each call but format was accepted and got each number from 4 to 16 that it can answer with so many
+    /// Fails unless each call but format was accepted and got each number from 4 on that it can answer with so many
     /// parities, each so many times, and no other; each call that tests the list got 3 for its arrangement; members
-    /// were put back with the bytes that they had and with others, calls were disputed; and each member was noted as
-    /// failed, and put back.
+    /// were put back with the bytes that they had and with others; and each was noted as failed, and put back.
     fn complete(&self, parities: usize, at_least: usize) -> Result<(), String> {
         let tests_list = |call: usize| tally::answers(call, 3, parities);
         if let Some(call) = (0..CALLS).find(|&call| tests_list(call) && self.rearranged[call] < at_least) {
@@ -282,8 +268,7 @@ impl Counts {
         }
         let format = tally::index(Call::Format);
         for (call, code) in (0..CALLS).flat_map(|call| (0..CODES).map(move |code| (call, code))) {
-            let is_later = code > 3 && code != DISPUTED;
-            let can_be = call != format && (code == 0 || is_later && tally::answers(call, code, parities));
+            let can_be = call != format && (code == 0 || code > 3 && tally::answers(call, code, parities));
             let (name, count, due) = (tally::name(call), self.given[call][code], if can_be { at_least } else { 0 });
             if count < due || count > 0 && !can_be {
                 return Err(format!("{name} got {code} {count} times, not {due}"));
@@ -293,18 +278,7 @@ impl Counts {
             let counts = [self.returned, self.unlike];
             return Err(format!("{counts:?} members were put back as they were and with other bytes, not {at_least}"));
         }
-        self.all_disputed(parities, at_least / 4)?;
         self.all_noted(parities)
-    }
-
-    /// Fails unless so many calls were disputed after members were put back with other bytes, and as many with a byte
-    /// flipped; with one parity none.
-    fn all_disputed(&self, parities: usize, at_least: usize) -> Result<(), String> {
-        let is_right = |&count: &usize| if parities == 2 { count >= at_least } else { count == 0 };
-        match self.disputed.iter().all(is_right) {
-            true => Ok(()),
-            false => Err(format!("{:?} calls were disputed, after other bytes and with one flipped", self.disputed)),
-        }
     }
 
     /// Fails unless each member was noted as failed, the log too, each was put back, the log not, and no other was,
@@ -336,9 +310,6 @@ fn sequence(stand: &mut Stand, counts: &mut [[Counts; 2]; 2], random: &mut Rando
             counts.count_rearranged(call, rearranged(call, &pair.shelf, stand, random)?);
         }
         reads::compare(call, &pair.shelf, stand, random)?;
-        if random.below(4) == 0 {
-            counts.disputed[1] += usize::from(damaged(call, &pair.shelf, stand, random)?);
-        }
         if random.below(8) == 0 {
             same_again(call, &pair.book, &mut data);
         }
@@ -353,12 +324,9 @@ fn sequence(stand: &mut Stand, counts: &mut [[Counts; 2]; 2], random: &mut Rando
             pair.takes_back(call, &before, stand)?;
         }
     }
-    if random.below(4) == 0 {
-        if let Some(disputed) = unlike(&mut pair, is_busy, stand, random)? {
-            counts.unlike += 1;
-            counts.disputed[0] += disputed;
-            return Ok(());
-        }
+    if random.below(4) == 0 && unlike(&mut pair, is_busy, stand, random)? {
+        counts.unlike += 1;
+        return Ok(());
     }
     if !pair.shelf.record.failed[..m.log()].contains(&1) {
         resynced(&mut pair, stand)?;
@@ -383,9 +351,8 @@ pub fn group(seed: u64) -> Outcome {
         "{} calls in {SEQUENCES} sequences of both layouts and both counts of parities as the model and the book have \
          them, {} accepted, {} plain reads of lost blocks refused, {} fetches and {} rebuilds withheld, none with one \
          parity, {} refused for the arrangement of the list; {} members put back, {} of them after their bytes had \
-         changed and were given back, and {} more with other bytes; {} calls disputed after these, {} with a byte \
-         flipped, and no other; each plain read as it goes with a fetch; each way of their work {least} times at \
-         least; seed {seed}",
+         changed and were given back, and {} more with other bytes; each plain read as it goes with a fetch; each way \
+         of their work {least} times at least; seed {seed}",
         stand.calls,
         sum(|counts| counts.given.iter().map(|codes| codes[0]).sum()),
         sum(|counts| counts.times(read(0, 0), 16)),
@@ -394,8 +361,6 @@ pub fn group(seed: u64) -> Outcome {
         sum(|counts| counts.rearranged.iter().sum()),
         sum(|counts| counts.times(Call::PutBack(0), 0)),
         sum(|counts| counts.returned),
-        sum(|counts| counts.unlike),
-        sum(|counts| counts.disputed[0]),
-        sum(|counts| counts.disputed[1])
+        sum(|counts| counts.unlike)
     ))
 }

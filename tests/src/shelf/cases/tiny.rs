@@ -1,11 +1,9 @@
 //! Complete walks of tiny shelves: every list of one or two slots and two places over the words that matter, with every
-//! call on those that are sound, in both layouts and with both counts of parities, with parities that agree with the
-//! originals and with others; and every choice of these, d, mode, failed members and call, with every member to fail
-//! and to put back.
+//! call on those that are sound, in both layouts and with both counts of parities; and every choice of these, d, mode,
+//! failed members and call, with every member to fail and to put back.
 
 use crate::random::Random;
 use crate::shelf::harness::calls::{fetch, read, write, Buffer, Call, Measures, Record, Shelf};
-use crate::shelf::harness::flips::agree;
 use crate::shelf::harness::lists::pick;
 use crate::shelf::harness::stand::Stand;
 use crate::shelf::model::numbers::NONE;
@@ -141,8 +139,7 @@ fn all_lists(h: usize, stand: &mut Stand, random: &mut Random) -> Result<(), Str
     }
 }
 
-/// Makes the calls of a sound list, each with each set of failed members, in both layouts and with both counts, with
-/// parities that are any, then with such as agree with the originals.
+/// Makes the calls of a sound list, each with each set of failed members, in both layouts and with both counts.
 fn sound_list(shelf: &Shelf, stand: &mut Stand) -> Result<(), String> {
     let mut shelf = shelf.clone();
     let sets = |[_, parities]: [usize; 2]| FAILED.into_iter().take(if parities == 1 { 5 } else { 16 });
@@ -153,8 +150,6 @@ fn sound_list(shelf: &Shelf, stand: &mut Stand) -> Result<(), String> {
         failed.iter().for_each(|&member| shelf.record.failed[member] = 1);
         let (_, count) = call.blocks().unwrap_or((0, 0));
         shelf.data = Buffer::of([33, 44][..count].to_vec());
-        stand.as_model(call, &shelf)?;
-        agree(&mut shelf);
         stand.as_model(call, &shelf)?;
     }
     Ok(())
@@ -187,8 +182,7 @@ const NAMING: [fn(usize) -> Call; 2] = [Call::Fail, Call::PutBack];
 const FAR: [usize; 6] = [256, 65536 + 3, 1 << 32, (1 << 63) + 1, usize::MAX - 2, usize::MAX];
 
 /// Walks every layout, count of parities, d, set of flags, mode with and without a listed block, and call, with every
-/// member to fail and to put back. The sets go up to one flag more than may be set. The parities agree with the
-/// originals.
+/// member to fail and to put back. The sets go up to one flag more than may be set.
 fn all_members(stand: &mut Stand) -> Result<(), String> {
     let word = |words: &[u32]| words.iter().flat_map(|word| word.to_le_bytes()).collect::<Vec<u8>>();
     let lists = [word(&[NONE; 5]), word(&[0, 1, 0, NONE, NONE])];
@@ -198,7 +192,6 @@ fn all_members(stand: &mut Stand) -> Result<(), String> {
             let mut shelf = shelf(d, 1, 1, 1, lists[listed].clone());
             become_kind(&mut shelf, kind);
             (shelf.record.mode, shelf.record.next, shelf.record.listed) = (mode, listed, listed);
-            agree(&mut shelf);
             for set in sets.iter().filter(|set| set.iter().sum::<u8>() as usize <= kind[1] + 1) {
                 shelf.record.failed = *set;
                 every_call(&shelf, stand)?;

@@ -164,7 +164,7 @@ pub fn group(_seed: u64) -> Outcome {
         let [shelves, lists] = walk(measures, stand)?;
         (reached, again) = (reached + shelves, again.min(lists));
     }
-    let least = stand.seen.of_reached(20)?;
+    let least = stand.seen.complete(20)?;
     if again < 20 {
         return Err(format!("the same was listed in {again} more ways, not 20"));
     }

@@ -3,7 +3,6 @@
 
 pub mod calls;
 pub mod damage;
-pub mod flips;
 pub mod lists;
 pub mod pair;
 pub mod reads;

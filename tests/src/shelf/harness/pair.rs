@@ -36,12 +36,11 @@ impl Pair {
 
     /// Makes a call, which leaves the shelf as it is handed on. A member that is put back holds what it held when it
     /// was reported. Fails unless the call does as the model does, gets the book's number, gives the book's blocks, and
-    /// leaves the book's counts, members and marks. So it is never 17, which the book does not know. Hands back the
-    /// number.
+    /// leaves the book's counts, members and marks. Hands back the number.
     pub fn step(&mut self, call: Call, data: Buffer, stand: &mut Stand) -> Result<usize, String> {
         self.reports.give(call, &mut self.shelf);
         let failed = self.shelf.record.failed;
-        let code = self.made(call, data, false, stand)?;
+        let code = self.numbered(call, data, stand)?;
         if code == 0 {
             self.exact(call, &failed, stand.data())?;
         }
@@ -56,29 +55,22 @@ impl Pair {
         }
     }
 
-    /// Makes a call as a step does, but a member that is put back holds what it holds, the blocks that are given need
-    /// not be the book's, and 17 may be given where the book has 0.
+    /// Makes a call as a step does, but a member that is put back holds what it holds, and the blocks that are given
+    /// need not be the book's.
     pub fn numbered(&mut self, call: Call, data: Buffer, stand: &mut Stand) -> Result<usize, String> {
-        self.made(call, data, true, stand)
-    }
-
-    /// Makes a call as the model does it. Fails unless it gets the book's number, or is disputed where it may be and
-    /// the book has 0, and leaves the book's counts, members and marks. Hands back the number.
-    fn made(&mut self, call: Call, data: Buffer, may_be_disputed: bool, stand: &mut Stand) -> Result<usize, String> {
         self.shelf.data = data;
         let due = self.book.number(call, self.shelf.data.told);
         let found = stand.as_model(call, &self.shelf)?.code();
-        let is_disputed = may_be_disputed && (found, due) == (17, 0);
-        if found != due && !is_disputed {
+        if found != due {
             return Err(format!("{call:?} answers {found}, by the book {due}; the shelf: {}", self.shelf));
         }
         stand.hand_on(&mut self.shelf);
-        if found == 0 {
+        if due == 0 {
             self.book.enter(call, &self.shelf.data.bytes);
             self.reports.take(call, &mut self.shelf);
         }
         self.agrees()?;
-        Ok(found)
+        Ok(due)
     }
 
     /// Fails unless an accepted report of a member of the array, which led here from this record, is taken back by the

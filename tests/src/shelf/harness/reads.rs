@@ -18,11 +18,11 @@ fn overwritten(shelf: &Shelf, random: &mut Random) -> Shelf {
 
 /// Whether the numbers of a plain and of a recovering read go together, and the data where both give it: where the
 /// plain one is accepted, so is the other, with the same bytes; 16 is given where the other is accepted or, with two
-/// parities, withheld or disputed; any other number is that of both.
+/// parities, withheld; any other number is that of both.
 fn agree(parities: usize, (plain, data): &(usize, Vec<u8>), (recovering, fetched): &(usize, Vec<u8>)) -> bool {
     match plain {
         0 => *recovering == 0 && data == fetched,
-        16 => *recovering == 0 || [14, 17].contains(recovering) && parities == 2,
+        16 => *recovering == 0 || *recovering == 14 && parities == 2,
         _ => recovering == plain,
     }
 }

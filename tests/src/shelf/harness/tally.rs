@@ -6,7 +6,7 @@ use crate::shelf::model::numbers::{Fault, Findings, OF_LENGTHS, OF_LIST, OF_MEAS
 
 /// How many calls there are, and numbers from 0 to the last one that a call answers.
 pub const CALLS: usize = 11;
-pub const CODES: usize = 18;
+pub const CODES: usize = 17;
 
 /// The calls by name, with the numbers that each can answer beside 0.
 const NUMBERS: [(&str, &[usize]); CALLS] = [
@@ -17,28 +17,18 @@ const NUMBERS: [(&str, &[usize]); CALLS] = [
     ("new log", &[1, 2, 3, 12, 13]),
     ("write", &[1, 2, 3, 4, 5, 8]),
     ("read", &[1, 2, 3, 4, 5, 16]),
-    ("fetch", &[1, 2, 3, 4, 5, 14, DISPUTED]),
+    ("fetch", &[1, 2, 3, 4, 5, 14]),
     ("resync", &[1, 2, 3, 7, 8]),
-    ("rebuild", &[1, 2, 3, 12, 14, DISPUTED]),
+    ("rebuild", &[1, 2, 3, 12, 14]),
     ("full resync", &[1, 2, 8]),
 ];
 
-/// The numbers that are never answered with one parity: the log and a disk can't both be failed then, and no other
-/// parity disagrees.
+/// The number that is never answered with one parity: the log and a disk can't both be failed then.
 const WITHHELD: usize = 14;
-pub const DISPUTED: usize = 17;
 
-/// The pairs of numbers that never apply together: a member above the log has no flag; a block is withheld or disputed
-/// only where a disk has failed. What is disputed can't be told where a length or the list is wrong.
-const APART_OF_TWO: [(&str, usize, usize); 7] = [
-    ("fail", 6, 10),
-    ("rebuild", 12, WITHHELD),
-    ("rebuild", 12, DISPUTED),
-    ("fetch", 2, DISPUTED),
-    ("fetch", 3, DISPUTED),
-    ("rebuild", 2, DISPUTED),
-    ("rebuild", 3, DISPUTED),
-];
+/// The pairs of numbers that never apply together: a member above the log has no flag; a block is withheld only where a
+/// disk has failed.
+const APART_OF_TWO: [(&str, usize, usize); 2] = [("fail", 6, 10), ("rebuild", 12, WITHHELD)];
 
 /// The same with one parity: besides, a disk and the log have not both failed where the record passes. That a member
 /// has failed already is never all that applies, since one failure is the limit.
@@ -105,7 +95,7 @@ pub fn name(index: usize) -> &'static str {
 
 /// Whether the call that has this index can answer this number on a shelf with so many parities.
 pub fn answers(index: usize, code: usize, parities: usize) -> bool {
-    NUMBERS[index].1.contains(&code) && (parities == 2 || ![WITHHELD, DISPUTED].contains(&code))
+    NUMBERS[index].1.contains(&code) && (parities == 2 || code != WITHHELD)
 }
 
 impl Tally {

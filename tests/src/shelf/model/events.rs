@@ -1,6 +1,6 @@
 //! The ways in which an accepted call does its work, those in which a plain read is refused where a recovering one is
-//! not or is too, and what is withheld or disputed, so that a group can tell whether it came through all of them, in
-//! each layout and with each count of parities, and through none that can't be there.
+//! not or is withheld too, and what is withheld, so that a group can tell whether it came through all of them, in each
+//! layout and with each count of parities, and through none that can't be there.
 
 use crate::shelf::harness::calls::Measures;
 
@@ -48,19 +48,16 @@ events! {
     ReadLostInOri,
     ReadLostByParity,
     ReadLostAndWithheld,
-    ReadLostAndDisputed,
     FetchSound,
     FetchSoundListed,
     FetchCur,
     FetchOri,
     FetchByP,
-    FetchConfirmed,
     FetchByQ,
     FetchByBoth,
     FetchBesideOri,
     FetchWithoutLog,
     FetchWithheld,
-    FetchDisputed,
     ResyncNone,
     ResyncSome,
     ResyncLast,
@@ -73,7 +70,6 @@ events! {
     RebuildParityListed,
     RebuildWithoutLog,
     RebuildWithheld,
-    RebuildDisputed,
     RebuildDropsNone,
     RebuildDropsLastAccelerating,
     RebuildDropsLastTransitional,
@@ -88,26 +84,19 @@ events! {
 /// member had data of one stripe and parity of another.
 const OF_ROTATING: [Event; 2] = [Event::RebuildDropsSome, Event::RebuildBothOfOne];
 
-/// The ways that are there only with two parities: a block is worked back by Q or tested by it, or a data block or the
-/// log is missing beside what else is. So with one parity nothing is withheld or disputed.
-const OF_TWO: [Event; 13] = [
+/// The ways that are there only with two parities: a block is worked back by Q, or a data block or the log is missing
+/// beside what else is. So with one parity nothing is withheld.
+const OF_TWO: [Event; 9] = [
     Event::PutBackBesideFailed,
     Event::PutBackWithoutLog,
     Event::ReadLostAndWithheld,
-    Event::ReadLostAndDisputed,
-    Event::FetchConfirmed,
     Event::FetchByQ,
     Event::FetchByBoth,
     Event::FetchWithoutLog,
     Event::FetchWithheld,
-    Event::FetchDisputed,
     Event::RebuildWithoutLog,
     Event::RebuildWithheld,
-    Event::RebuildDisputed,
 ];
-
-/// The ways that are there only where bytes of the shelf have changed since they were stored.
-const OF_DAMAGED: [Event; 3] = [Event::ReadLostAndDisputed, Event::FetchDisputed, Event::RebuildDisputed];
 
 /// The ways of put back, which is no call of the bench program.
 const OF_PUT_BACK: [Event; 6] = [
@@ -161,26 +150,16 @@ impl Seen {
     /// Fails unless each way was gone so many times in each layout and with each count of parities that have it, and
     /// never where they have not. Hands back the least count.
     pub fn complete(&self, at_least: usize) -> Result<usize, String> {
-        self.all(at_least, |_| true)
-    }
-
-    /// The same of shelves that sequences of calls reached, where no byte is damaged.
-    pub fn of_reached(&self, at_least: usize) -> Result<usize, String> {
-        self.all(at_least, |event| !OF_DAMAGED.contains(&event))
-    }
-
-    /// The same of the ways that there may be.
-    fn all(&self, at_least: usize, may_be: fn(Event) -> bool) -> Result<usize, String> {
         let mut least = usize::MAX;
         for (layout, parities) in [(0, 1), (0, 2), (1, 1), (1, 2)] {
-            least = least.min(self.least(layout, parities, at_least, may_be)?);
+            least = least.min(self.least(layout, parities, at_least, |_| true)?);
         }
         Ok(least)
     }
 
-    /// The same of the bench program, which has two parities that are fixed, no put back and no damage.
+    /// The same of the bench program, which has two parities that are fixed, and no put back.
     pub fn of_bench(&self, at_least: usize) -> Result<usize, String> {
-        self.least(0, 2, at_least, |event| !OF_PUT_BACK.contains(&event) && !OF_DAMAGED.contains(&event))
+        self.least(0, 2, at_least, |event| !OF_PUT_BACK.contains(&event))
     }
 
     /// The same of one layout and one count of parities, and of the ways that there may be.

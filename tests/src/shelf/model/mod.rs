@@ -4,11 +4,9 @@
 pub mod book;
 pub mod clauses;
 pub mod conditions;
-pub mod dispute;
 pub mod due;
 pub mod events;
 pub mod layout;
 pub mod numbers;
 pub mod roles;
-pub mod sight;
 pub mod works;

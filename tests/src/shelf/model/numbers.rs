@@ -3,7 +3,6 @@
 
 use super::clauses::list_walk;
 use super::conditions::conditions;
-use super::dispute::is_disputed;
 use super::layout;
 use crate::shelf::harness::calls::{Call, Measures, Record, Shelf};
 
@@ -268,14 +267,8 @@ fn length_faults(shelf: &Shelf) -> Faults {
     faults
 }
 
-/// Whether array and log are lent as long as is told.
-fn is_whole(shelf: &Shelf) -> bool {
-    [&shelf.array, &shelf.log].iter().all(|buffer| buffer.bytes.len() == buffer.told)
-}
-
 /// Finds all that applies to a call. Row 3 is looked for only where there is a list of the right length; a stripe waits
-/// if a walk over that list, be it sound or not, comes to a block of it. Row 17 is looked for only where all lengths
-/// and the list are right, no record is past the log's end, and array and log are lent whole.
+/// if a walk over that list, be it sound or not, comes to a block of it.
 pub fn findings(call: Call, shelf: &Shelf) -> Findings {
     let r = &shelf.record;
     let measures = measure_faults(r.measures);
@@ -292,10 +285,6 @@ pub fn findings(call: Call, shelf: &Shelf) -> Findings {
     let mut numbers = conditions(call, shelf, &is_listed) | u32::from(!is_right) << 3;
     for (row, found) in faults.iter().take(2).enumerate() {
         numbers |= u32::from(!found.none()) << (row + 1);
-    }
-    let is_in_log = !faults[0].has(NextAboveL);
-    if measures.none() && faults[1].none() && is_right && is_in_log && is_whole(shelf) {
-        numbers |= u32::from(is_disputed(call, shelf)) << 17;
     }
     Findings { faults, numbers }
 }

@@ -8,12 +8,11 @@ use super::events::{Event, Events};
 use super::layout::{Entries, List};
 use super::numbers::{findings, NONE};
 use super::roles;
-use super::sight::{place, Sight, Source};
-use crate::model::made;
+use crate::model::{made, recovered};
 use crate::shelf::harness::calls::{fetch, Call, Measures, Record, Shelf};
 
 /// What is due of a call that is answered with this number, and the ways in which its work is done, a plain read is
-/// refused, or blocks are withheld or disputed.
+/// refused, or blocks are withheld.
 pub fn outcome(call: Call, shelf: &Shelf, code: usize) -> (Due, Events) {
     let mut due = Due::nothing(call, shelf, code);
     let mut events = Events::default();
@@ -22,8 +21,6 @@ pub fn outcome(call: Call, shelf: &Shelf, code: usize) -> (Due, Events) {
         _ if code != 0 => {
             events.add(Event::FetchWithheld, code == 14 && call.is_read());
             events.add(Event::RebuildWithheld, code == 14 && call == Call::Rebuild);
-            events.add(Event::FetchDisputed, code == 17 && call.is_read());
-            events.add(Event::RebuildDisputed, code == 17 && call == Call::Rebuild);
         }
         Call::Format => format(shelf, &mut due),
         Call::Start => due.record.mode = 1,
@@ -84,13 +81,12 @@ fn read(shelf: &Shelf, addresses: Range<usize>, events: &mut Events) -> Vec<u8> 
 }
 
 /// The ways in which a plain read is refused for a block on a failed member: where a recovering read of the same blocks
-/// takes it from, or that this one is withheld or disputed.
+/// takes it from, or that this one is withheld.
 fn lost(shelf: &Shelf, address: usize, count: usize) -> Events {
     let (sight, mut events) = (Sight::of(shelf), Events::default());
-    let recovering = findings(fetch(address, count), shelf).code();
-    events.add(Event::ReadLostAndWithheld, recovering == 14);
-    events.add(Event::ReadLostAndDisputed, recovering == 17);
-    for source in (address..address + count).map(|address| sight.source(address)).filter(|_| recovering == 0) {
+    let is_withheld = findings(fetch(address, count), shelf).code() == 14;
+    events.add(Event::ReadLostAndWithheld, is_withheld);
+    for source in (address..address + count).map(|address| sight.source(address)).filter(|_| !is_withheld) {
         events.add(Event::ReadLostInCur, matches!(source, Source::Cur(_)));
         events.add(Event::ReadLostInOri, matches!(source, Source::Ori(_)));
         events.add(Event::ReadLostByParity, matches!(source, Source::Parity));
@@ -102,6 +98,113 @@ fn lost(shelf: &Shelf, address: usize, count: usize) -> Events {
 fn fetched(shelf: &Shelf, addresses: Range<usize>, events: &mut Events) -> Vec<u8> {
     let sight = Sight::of(shelf);
     addresses.flat_map(|address| sight.block(address, events)).collect()
+}
+
+/// Where the block of a member in a stripe stands in the array.
+fn place(m: Measures, member: usize, stripe: usize) -> Range<usize> {
+    let first = (member * m.s + stripe) * m.b;
+    first..first + m.b
+}
+
+/// Where a recovering read takes a block from: its member, a record of the log, or parity.
+enum Source {
+    Member,
+    Cur(u32),
+    Ori(u32),
+    Parity,
+}
+
+/// A shelf as both reads see it.
+struct Sight<'a> {
+    shelf: &'a Shelf,
+    entries: Entries,
+}
+
+impl Sight<'_> {
+    /// The sight of a sound shelf.
+    fn of(shelf: &Shelf) -> Sight<'_> {
+        Sight { shelf, entries: List::of(shelf.record.measures, &shelf.list.bytes).entries() }
+    }
+
+    /// Whether a member has failed.
+    fn is_failed(&self, member: usize) -> bool {
+        self.shelf.record.failed[member] != 0
+    }
+
+    /// The member that has a block.
+    fn member(&self, address: usize) -> usize {
+        let m = self.shelf.record.measures;
+        roles::members(m, address / m.d)[address % m.d]
+    }
+
+    /// The bytes of a member's block in a stripe.
+    fn stored(&self, member: usize, stripe: usize) -> &[u8] {
+        &self.shelf.array.bytes[place(self.shelf.record.measures, member, stripe)]
+    }
+
+    /// A record of the log.
+    fn logged(&self, record: u32) -> &[u8] {
+        let b = self.shelf.record.measures.b;
+        &self.shelf.log.bytes[record as usize * b..][..b]
+    }
+
+    /// Where a recovering read takes a block from: a failed member's from Cur, else from Ori, else from parity.
+    fn source(&self, address: usize) -> Source {
+        match self.entries.get(&address) {
+            _ if !self.is_failed(self.member(address)) => Source::Member,
+            Some(&[ori, NONE]) => Source::Ori(ori),
+            Some(&[_, cur]) => Source::Cur(cur),
+            None => Source::Parity,
+        }
+    }
+
+    /// What a recovering read gives of a block.
+    fn block(&self, address: usize, events: &mut Events) -> Vec<u8> {
+        let (m, source) = (self.shelf.record.measures, self.source(address));
+        let (is_member, is_listed) = (matches!(source, Source::Member), self.entries.contains_key(&address));
+        events.add(Event::FetchSound, is_member && !is_listed);
+        events.add(Event::FetchSoundListed, is_member && is_listed);
+        events.add(Event::FetchWithoutLog, !is_member && self.is_failed(m.log()));
+        events.add(Event::FetchCur, matches!(source, Source::Cur(_)));
+        events.add(Event::FetchOri, matches!(source, Source::Ori(_)));
+        match source {
+            Source::Member => self.stored(self.member(address), address / m.d).to_vec(),
+            Source::Cur(record) | Source::Ori(record) => self.logged(record).to_vec(),
+            Source::Parity => self.worked_back(address, events),
+        }
+    }
+
+    /// The original of a stripe's block, by its place in the stripe and its member: a listed block's Ori, else its
+    /// bytes if its member is sound; else missing.
+    fn original(&self, place: usize, member: usize, stripe: usize) -> Option<&[u8]> {
+        let d = self.shelf.record.measures.d;
+        let entry = if place < d { self.entries.get(&(stripe * d + place)) } else { None };
+        match entry {
+            Some(&[NONE, _]) => None,
+            Some(&[ori, _]) => Some(self.logged(ori)),
+            None if self.is_failed(member) => None,
+            None => Some(self.stored(member, stripe)),
+        }
+    }
+
+    /// An unlisted block on a failed member, worked back by parity from originals.
+    fn worked_back(&self, address: usize, events: &mut Events) -> Vec<u8> {
+        let m = self.shelf.record.measures;
+        let Measures { d, b, .. } = m;
+        let (stripe, x) = (address / d, address % d);
+        let (mut row, mut y) = (vec![0; m.log() * b], x);
+        for (place, member) in roles::members(m, stripe).into_iter().enumerate().filter(|&(place, _)| place != x) {
+            match self.original(place, member, stripe) {
+                Some(bytes) => row[place * b..][..b].copy_from_slice(bytes),
+                None => y = place,
+            }
+        }
+        events.add(Event::FetchByBoth, y != x && y < d);
+        events.add(Event::FetchByQ, y == d);
+        events.add(Event::FetchByP, y == x || y == d + 1);
+        events.add(Event::FetchBesideOri, (0..d).any(|index| self.entries.contains_key(&(stripe * d + index))));
+        recovered(d, m.parities, b, x, y, &row)[x * b..][..b].to_vec()
+    }
 }
 
 /// A shelf in work: the record, array and log as they are so far, and what the list says so far. The record's count of

@@ -5,7 +5,8 @@ use Prim.Native.Nat.{ℕ}
 use native.Mathlib.Omega.{arith}
 use lib.ListN.{length, get_or}
 use Rattle.stripe.specs.Blocks.{block}
-use Rattle.shelf.proofs.calls.GivenLaws.{given_log, latest-low, place_room}
+use Rattle.shelf.proofs.calls.GivenLaws.{given_log, latest-low}
+use Rattle.shelf.proofs.calls.GivenLaws.{place_room}
 use Rattle.shelf.proofs.calls.RefillLaws.{filled_by, filled_lost}
 use Rattle.shelf.proofs.rebuild.fill_block.Goals as goal
 
@@ -14,7 +15,6 @@ copy_block-requires-clause-b_in_bounds c =
     let a = c in
     let v : ℕ = get_or a.args.from.latest a.args.i 0 in
     let ev = a.requires.working_at.sources.newest a.args.i a.requires.working_at.index in
-    let k = c.block_number-k in
     latest-low a.args.shelf a.args.array.now a.args.log.now a.args.list.now a.requires.rebuildable.ready a.args.x a.requires.working_at.stripe a.args.i v ev c.if-r-ne-NONE.true
 
 pub copy_block-requires-clause-b_in_bounds_2 : goal.copy_block-requires-clause-b_in_bounds_2
@@ -25,8 +25,8 @@ copy_block-requires-clause-b_in_bounds_2 c =
     let k = c.block_number-k in
     place_room a.args.shelf.geometry a.args.array.now a.requires.rebuildable.ready.array a.args.x a.args.i k.result a.requires.working_at.stripe (omega (arith, a.requires.working_at.index)) k.ensures
 
-pub returns-then-r-ne-NONE : goal.returns-then-r-ne-NONE
-returns-then-r-ne-NONE c =
+pub returns-then-r-ne-NONE-clause-array_after : goal.returns-then-r-ne-NONE-clause-array_after
+returns-then-r-ne-NONE-clause-array_after c =
     let a = c in
     let v : ℕ = get_or a.args.from.latest a.args.i 0 in
     let ev = a.requires.working_at.sources.newest a.args.i a.requires.working_at.index in
@@ -35,34 +35,9 @@ returns-then-r-ne-NONE c =
     filled_by a.args.shelf a.args.array.now a.args.log.now a.args.list.now a.args.x a.args.i k.result (block g.b v a.args.log.now) c.copy_block.new.dst k.ensures c.copy_block.ensures
     (given_log a.args.shelf a.args.array.now a.args.log.now a.args.list.now a.requires.rebuildable.ready a.args.x a.requires.working_at.stripe a.args.i a.requires.i_value v ev c.if-r-ne-NONE.true)
 
-pub refill_block-requires-clause-rebuildable : goal.refill_block-requires-clause-rebuildable
-refill_block-requires-clause-rebuildable c =
-    let a = c in
-    let v : ℕ = get_or a.args.from.latest a.args.i 0 in
-    let ev = a.requires.working_at.sources.newest a.args.i a.requires.working_at.index in
-    let on = a.requires.i_value in
-    a.requires.rebuildable
-
-pub refill_block-requires-clause-working_at : goal.refill_block-requires-clause-working_at
-refill_block-requires-clause-working_at c =
-    let a = c in
-    let v : ℕ = get_or a.args.from.latest a.args.i 0 in
-    let ev = a.requires.working_at.sources.newest a.args.i a.requires.working_at.index in
-    let on = a.requires.i_value in
-    a.requires.working_at
-
-pub refill_block-requires-clause-filled_below : goal.refill_block-requires-clause-filled_below
-refill_block-requires-clause-filled_below c =
-    let a = c in
-    let v : ℕ = get_or a.args.from.latest a.args.i 0 in
-    let ev = a.requires.working_at.sources.newest a.args.i a.requires.working_at.index in
-    let on = a.requires.i_value in
-    a.requires.filled_below
-
 pub refill_block-requires-clause-lost : goal.refill_block-requires-clause-lost
 refill_block-requires-clause-lost c =
     let a = c in
-    let v : ℕ = get_or a.args.from.latest a.args.i 0 in
     let ev = a.requires.working_at.sources.newest a.args.i a.requires.working_at.index in
     let on = a.requires.i_value in
     (on, sym ev ∙ c.if-r-ne-NONE.false)
@@ -70,7 +45,6 @@ refill_block-requires-clause-lost c =
 pub copy_block-requires-2-clause-b_in_bounds : goal.copy_block-requires-2-clause-b_in_bounds
 copy_block-requires-2-clause-b_in_bounds c =
     let a = c in
-    let k = c.block_number-k in
     let long : length c.refill_block.new.work ≡ a.args.shelf.geometry.b = c.work-1.given ∙ a.requires.working_at.working.block in
     omega (arith, long)
 
@@ -81,8 +55,8 @@ copy_block-requires-2-clause-b_in_bounds_2 c =
     let long : length c.refill_block.new.work ≡ a.args.shelf.geometry.b = c.work-1.given ∙ a.requires.working_at.working.block in
     place_room a.args.shelf.geometry a.args.array.now a.requires.rebuildable.ready.array a.args.x a.args.i k.result a.requires.working_at.stripe (omega (arith, a.requires.working_at.index)) k.ensures
 
-pub returns : goal.returns
-returns c =
+pub returns-clause-array_after : goal.returns-clause-array_after
+returns-clause-array_after c =
     let a = c in
     let v : ℕ = get_or a.args.from.latest a.args.i 0 in
     let ev = a.requires.working_at.sources.newest a.args.i a.requires.working_at.index in
@@ -91,4 +65,4 @@ returns c =
     let k = c.block_number-k in
     let long : length w.new.work ≡ g.b = c.work-1.given ∙ a.requires.working_at.working.block in
     filled_lost a.args.shelf a.args.array.now a.args.log.now a.args.list.now a.requires.rebuildable.ready a.args.x a.args.i k.result v w.new.work c.copy_block-2.new.dst a.requires.working_at.stripe a.requires.i_value
-    ev c.if-r-ne-NONE.false long w.ensures k.ensures c.copy_block-2.ensures
+    ev c.if-r-ne-NONE.false long w.ensures.work_after k.ensures c.copy_block-2.ensures

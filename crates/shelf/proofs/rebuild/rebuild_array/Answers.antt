@@ -1,27 +1,14 @@
--- `shelf::rebuild::rebuild_array` meets its contract: one working block is lent to the test and to all stripes.
+-- `shelf::rebuild::rebuild_array` meets its contract: one working block and one table are lent to all stripes.
 -- Assumes nothing.
 use mathlib.Core.Path.{sym}
 use lib.Seq.{length-take-le}
+use Rattle.stripe.proofs.Laws.{no_products}
 use Rattle.shelf.proofs.rebuild.rebuild_array.Goals as goal
 
-pub slice_bounds-rebuild_confirmed-end : goal.slice_bounds-rebuild_confirmed-end
-slice_bounds-rebuild_confirmed-end c = let a = c in sym (length-take-le a.args.shelf.geometry.b _ a.requires.ready.listing.range.b_most)
+pub slice_bounds-rebuild_stripes-end : goal.slice_bounds-rebuild_stripes-end
+slice_bounds-rebuild_stripes-end c = sym (length-take-le c.args.shelf.geometry.b _ c.requires.ready.listing.range.b_most)
 
-pub rebuild_confirmed-requires-clause-rebuildable : goal.rebuild_confirmed-requires-clause-rebuildable
-rebuild_confirmed-requires-clause-rebuildable c =
+pub rebuild_stripes-requires-clause-working : goal.rebuild_stripes-requires-clause-working
+rebuild_stripes-requires-clause-working c =
     let a = c in
-    a.requires
-
-pub rebuild_confirmed-requires-clause-working : goal.rebuild_confirmed-requires-clause-working
-rebuild_confirmed-requires-clause-working c =
-    let a = c in
-    record { ready = a.requires.ready; block = length-take-le a.args.shelf.geometry.b _ a.requires.ready.listing.range.b_most }
-
-pub returns-clause-value : goal.returns-clause-value
-returns-clause-value c = c.rebuild_confirmed.ensures.value
-
-pub returns-clause-array_after : goal.returns-clause-array_after
-returns-clause-array_after c = c.rebuild_confirmed.ensures.array_after
-
-pub returns-clause-array_unchanged : goal.returns-clause-array_unchanged
-returns-clause-array_unchanged c = c.rebuild_confirmed.ensures.array_unchanged
+    record { ready = a.requires.ready; block = length-take-le a.args.shelf.geometry.b _ a.requires.ready.listing.range.b_most; products = no_products }

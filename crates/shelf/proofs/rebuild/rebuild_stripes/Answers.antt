@@ -11,7 +11,7 @@ use Rattle.shelf.proofs.rebuild.rebuild_stripes.Goals as goal
 pub loop-x-init : goal.loop-x-init
 loop-x-init c =
     let a = c in
-    (zero-le, (refl, (a.requires.working.block, rebuilt_start (lent a.args.shelf a.args.array.now a.args.log.now a.args.list.now))))
+    (zero-le, (refl, (a.requires.working.block, (a.requires.working.products, rebuilt_start (lent a.args.shelf a.args.array.now a.args.log.now a.args.list.now)))))
 
 pub rebuild_stripe-requires-clause-rebuildable : goal.rebuild_stripe-requires-clause-rebuildable
 rebuild_stripe-requires-clause-rebuildable c =
@@ -25,14 +25,7 @@ rebuild_stripe-requires-clause-working c =
     let a = c in
     let at-loop = c.loop-x in
     let now = rebuildable_with a.args.shelf a.args.array.now at-loop.array a.args.log.now a.args.list.now a.requires.rebuildable at-loop.invariant.1.0 in
-    record { ready = now.ready; block = at-loop.invariant.1.1.0 }
-
-pub rebuild_stripe-requires-clause-x_lt_s : goal.rebuild_stripe-requires-clause-x_lt_s
-rebuild_stripe-requires-clause-x_lt_s c =
-    let a = c in
-    let at-loop = c.loop-x in
-    let now = rebuildable_with a.args.shelf a.args.array.now at-loop.array a.args.log.now a.args.list.now a.requires.rebuildable at-loop.invariant.1.0 in
-    c.loop-x-test.true
+    record { ready = now.ready; block = at-loop.invariant.1.1.0; products = at-loop.invariant.1.1.1.0 }
 
 pub loop-x-preserved : goal.loop-x-preserved
 loop-x-preserved c =
@@ -44,7 +37,10 @@ loop-x-preserved c =
         c.array-1.given ∙ at-loop.invariant.1.0,
         (
           c.work-1.given ∙ at-loop.invariant.1.1.0,
-          rebuilt_more (lent a.args.shelf a.args.array.now a.args.log.now a.args.list.now) at-loop.x at-loop.array one.new.array at-loop.invariant.1.1.1 one.ensures,
+          (
+            one.ensures.products,
+            rebuilt_more (lent a.args.shelf a.args.array.now a.args.log.now a.args.list.now) at-loop.x at-loop.array one.new.array at-loop.invariant.1.1.1.1 one.ensures.array_after,
+          ),
         ),
       ),
     )
@@ -54,4 +50,4 @@ returns c =
     let a = c in
     let at-loop = c.loop-x in
     let done : at-loop.x ≡ a.args.shelf.geometry.s = omega (arith, at-loop.invariant.0, c.loop-x-test.false) in
-    at-loop.invariant.1.1.1 ∙ ap (rebuilt_to (lent a.args.shelf a.args.array.now a.args.log.now a.args.list.now)) done
+    at-loop.invariant.1.1.1.1 ∙ ap (rebuilt_to (lent a.args.shelf a.args.array.now a.args.log.now a.args.list.now)) done

@@ -19,15 +19,15 @@ overflow_add-starts c =
     let start = c in
     omega (arith, start.requires.spans.within (c.loop-i.i - 1) (omega arith))
 
-pub add_row-requires-clause-w_in_bounds : goal.add_row-requires-clause-w_in_bounds
-add_row-requires-clause-w_in_bounds c =
+pub add_row-requires-clause-b_in_bounds : goal.add_row-requires-clause-b_in_bounds
+add_row-requires-clause-b_in_bounds c =
     let start = c in
     let at-loop = c.loop-i in
     let at : get_or start.args.starts.now (at-loop.i - 1) 0 + (start.args.o + start.args.w) ≤ length start.args.array.now = start.requires.spans.within (at-loop.i - 1) (omega arith) in
     omega arith
 
-pub add_row-requires-clause-w_in_bounds_2 : goal.add_row-requires-clause-w_in_bounds_2
-add_row-requires-clause-w_in_bounds_2 c =
+pub add_row-requires-clause-b_in_bounds_2 : goal.add_row-requires-clause-b_in_bounds_2
+add_row-requires-clause-b_in_bounds_2 c =
     let start = c in
     let at-loop = c.loop-i in
     let at : get_or start.args.starts.now (at-loop.i - 1) 0 + (start.args.o + start.args.w) ≤ length start.args.array.now = start.requires.spans.within (at-loop.i - 1) (omega arith) in
@@ -39,7 +39,7 @@ loop-i-preserved c =
     let at-loop = c.loop-i in
     let called = c.add_row in
     let less : at-loop.i ≡ suc (at-loop.i - 1) = omega arith in
-    (omega arith, (c.p-1.given ∙ at-loop.invariant.1.0, p_next a.starts.now a.o a.w a.array.now a.d at-loop.i (at-loop.i - 1) at-loop.p called.new.row less at-loop.invariant.0 at-loop.invariant.1.1 called.ensures))
+    (omega arith, (c.p-1.given ∙ at-loop.invariant.1.0, p_next a.starts.now a.o a.w a.array.now a.d at-loop.i (at-loop.i - 1) at-loop.p called.new.work less at-loop.invariant.0 at-loop.invariant.1.1 called.ensures))
 
 pub returns : goal.returns
 returns c =

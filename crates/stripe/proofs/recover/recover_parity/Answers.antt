@@ -1,13 +1,8 @@
 -- `stripe::recover::recover_parity` meets its contract: P and Q are named, one of them or none.
 -- Assumes nothing.
 use mathlib.Core.Path.{sym, ◌∙◌}
-use Prim.Native.Nat.{◌+◌}
-use native.Mathlib.Nat.{le_refl}
-use Rattle.stripe.proofs.RecoverLaws.{named_q, alone_p, parity_both, parity_p_lem, parity_q_lem, parity-none}
+use Rattle.stripe.proofs.RecoverLaws.{named_q, parity_both, parity_p_lem, parity_q_lem, parity-none}
 use Rattle.stripe.proofs.recover.recover_parity.Goals as goal
-
-pub make_own_parity-requires : goal.make_own_parity-requires
-make_own_parity-requires c = c.requires.workable.measures
 
 pub returns-then-names-2 : goal.returns-then-names-2
 returns-then-names-2 c =
@@ -15,28 +10,11 @@ returns-then-names-2 c =
     let a = start.args in
     parity_both a.d a.parities a.b a.x a.y a.stripe.now start.requires.workable.measures.parity-most start.requires.workable.measures.size_is _ (sym c.names.ensures ∙ c.if-names.true) (sym c.names-then-names.ensures ∙ c.if-names-2.true) c.make_own_parity.ensures
 
-pub recover_by_p-requires-clause-whole : goal.recover_by_p-requires-clause-whole
-recover_by_p-requires-clause-whole c =
-    let start = c in
-    start.requires.workable.measures
-
-pub recover_by_p-requires-clause-x_le_d : goal.recover_by_p-requires-clause-x_le_d
-recover_by_p-requires-clause-x_le_d c =
-    let start = c in
-    le_refl start.args.d
-
 pub returns-then-names : goal.returns-then-names
 returns-then-names c =
     let start = c in
     let a = start.args in
-    parity_p_lem a.d a.parities a.b a.x a.y a.stripe.now start.requires.workable.measures.parity-most start.requires.workable.measures.size_is _ (sym c.names.ensures ∙ c.if-names.true) (sym c.names-then-names.ensures ∙ c.if-names-2.false)
-    (alone_p a.d (a.d + a.parities) a.b a.stripe.now _ c.recover_by_p.ensures)
-
-pub make_q-requires-clause-workable : goal.make_q-requires-clause-workable
-make_q-requires-clause-workable c =
-    let start = c in
-    let a = start.args in
-    start.requires.workable
+    parity_p_lem a.d a.parities a.b a.x a.y a.stripe.now start.requires.workable.measures.parity-most start.requires.workable.measures.size_is _ (sym c.names.ensures ∙ c.if-names.true) (sym c.names-then-names.ensures ∙ c.if-names-2.false) c.make_p.ensures
 
 pub make_q-requires-clause-le_parities : goal.make_q-requires-clause-le_parities
 make_q-requires-clause-le_parities c =

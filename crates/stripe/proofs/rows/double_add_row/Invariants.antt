@@ -6,7 +6,7 @@ use Rattle.stripe.proofs.Lists.{Filled}
 use Rattle.stripe.proofs.rows.double_add_row.Given as goal
 
 abbrev pub invariant-loop-j : goal.invariant-loop-j
-invariant-loop-j l = (l.j ≤ l.w) × Filled l.initial.row l.row l.j (twice_plus (taken l.at l.src) l.initial.row)
+invariant-loop-j l = (l.j ≤ l.b) × Filled l.initial.work l.work l.j (twice_plus (taken l.at l.src) l.initial.work)
 
 abbrev pub decreases-loop-j : goal.decreases-loop-j
-decreases-loop-j l = l.w - l.j
+decreases-loop-j l = l.b - l.j

@@ -4,18 +4,19 @@ use Prim.Native.Nat.{◌<◌}
 use native.Mathlib.Omega.{arith}
 use lib.ListN.{length}
 use Rattle.stripe.specs.below.Steps.{doubled}
-use Rattle.stripe.proofs.RowLaws.{filled_starts, doubled-step}
+use Rattle.stripe.proofs.Lists.{filled_all}
+use Rattle.stripe.proofs.RowLaws.{doubled-step}
 use Rattle.stripe.proofs.rows.double_row.Goals as goal
 
 pub loop-j-preserved : goal.loop-j-preserved
 loop-j-preserved c =
     let at-loop = c.loop-j in
     let a = c.args in
-    let long : at-loop.j < length a.row.now = omega arith in
-    (omega arith, doubled-step a.row.now at-loop.row at-loop.j c.twice.result at-loop.invariant.1 long c.twice.ensures)
+    let long : at-loop.j < length a.work.now = omega arith in
+    (omega arith, doubled-step a.work.now at-loop.work at-loop.j c.twice.result at-loop.invariant.1 long c.twice.ensures)
 
 pub returns : goal.returns
 returns c =
     let at-loop = c.loop-j in
     let a = c.args in
-    filled_starts a.row.now at-loop.row at-loop.j a.w (doubled a.row.now) at-loop.invariant.1 (omega arith)
+    filled_all a.work.now at-loop.work at-loop.j a.b (doubled a.work.now) at-loop.invariant.1 (omega arith) c.requires

@@ -2,59 +2,32 @@
 -- Assumes nothing.
 use mathlib.Core.List.{◌++◌}
 use mathlib.Core.Path.{sym, ◌∙◌}
-use native.Mathlib.Omega.{arith}
 use Rattle.stripe.proofs.SolveLaws.{gathers_with, from_p_lem, from_q_lem, from_p_when, from_q_when}
 use Rattle.stripe.proofs.solve.solve.Goals as goal
 
-pub returns-then-comes_from_p : goal.returns-then-comes_from_p
-returns-then-comes_from_p c =
+pub returns-then-comes_from_p-clause-work_after : goal.returns-then-comes_from_p-clause-work_after
+returns-then-comes_from_p-clause-work_after c =
     let a = c.args in
     from_p_lem a.ns.now a.b (a.array.now ++ a.log.now) _ a.d a.x a.y (from_p_when a.d a.x a.y (sym c.comes_from_p.ensures ∙ c.if-comes_from_p.true)) c.gather_rest.ensures
 
-pub gather_weighted-requires-clause-gathers : goal.gather_weighted-requires-clause-gathers
-gather_weighted-requires-clause-gathers c = c.requires.gathers
-
-pub gather_weighted-requires-clause-le_d : goal.gather_weighted-requires-clause-le_d
-gather_weighted-requires-clause-le_d c = omega (arith, c.requires.x_lt_d)
-
 pub divide-requires-clause-gathers : goal.divide-requires-clause-gathers
 divide-requires-clause-gathers c =
-    let start = c in
-    let a = start.args in
-    let pre = start.requires in
-    let no_p = sym c.comes_from_p.ensures ∙ c.if-comes_from_p.false in
-    let way = from_q_when a.d a.x a.y no_p in
+    let pre = c.requires in
     gathers_with _ (c.work-2-1.given ∙ pre.gathers.working) pre.gathers
-
-pub divide-requires-clause-x_lt_d : goal.divide-requires-clause-x_lt_d
-divide-requires-clause-x_lt_d c =
-    let start = c in
-    let a = start.args in
-    let pre = start.requires in
-    let no_p = sym c.comes_from_p.ensures ∙ c.if-comes_from_p.false in
-    let way = from_q_when a.d a.x a.y no_p in
-    pre.x_lt_d
 
 pub divide-requires-clause-y_le_d : goal.divide-requires-clause-y_le_d
 divide-requires-clause-y_le_d c =
-    let start = c in
-    let a = start.args in
-    let pre = start.requires in
-    let no_p = sym c.comes_from_p.ensures ∙ c.if-comes_from_p.false in
-    let way = from_q_when a.d a.x a.y no_p in
+    let a = c.args in
+    let way = from_q_when a.d a.x a.y (sym c.comes_from_p.ensures ∙ c.if-comes_from_p.false) in
     way.1
 
 pub divide-requires-clause-held : goal.divide-requires-clause-held
 divide-requires-clause-held c =
-    let start = c in
-    let a = start.args in
-    let pre = start.requires in
-    let no_p = sym c.comes_from_p.ensures ∙ c.if-comes_from_p.false in
-    let way = from_q_when a.d a.x a.y no_p in
-    pre.held no_p
+    let pre = c.requires in
+    pre.held (sym c.comes_from_p.ensures ∙ c.if-comes_from_p.false)
 
-pub returns : goal.returns
-returns c =
+pub returns-clause-work_after : goal.returns-clause-work_after
+returns-clause-work_after c =
     let a = c.args in
     let way = from_q_when a.d a.x a.y (sym c.comes_from_p.ensures ∙ c.if-comes_from_p.false) in
-    from_q_lem a.ns.now a.b (a.array.now ++ a.log.now) _ _ a.d a.x a.y way.0 way.1 c.gather_weighted.ensures c.divide.ensures
+    from_q_lem a.ns.now a.b (a.array.now ++ a.log.now) _ _ a.d a.x a.y way.0 way.1 c.gather_weighted.ensures c.divide.ensures.work_after
