@@ -1,20 +1,20 @@
 -- Laws of the room that the bench program has, of the data of a call, and of what comes of a request.
 -- Assumes nothing.
 use mathlib.Core.Bool.{Bool, true, false, not}
-use mathlib.Core.List.{List, ◌++◌}
+use mathlib.Core.List.{List}
 use mathlib.Core.Path.{◌≡◌, refl, sym, ap, ap₂, ◌∙◌, subst}
-use Prim.Native.Nat.{ℕ, zero, suc, ◌+◌, ◌*◌, ◌/◌, ◌≤◌, ◌<◌}
+use Prim.Native.Nat.{ℕ, zero, suc, ◌+◌, ◌*◌, ◌≤◌, ◌<◌}
 use native.Mathlib.Decide.{dec_lt}
-use native.Mathlib.Nat.{mul-le-mul_right, div-mul-le_self, div-lt_iff_lt-mul, mul-zero}
+use native.Mathlib.Nat.{mul-le-mul_right}
 use native.Mathlib.Omega.{arith}
 use lib.Dec.{leb}
-use lib.ListN.{length, take, drop, get_or, replicate, length-replicate}
-use lib.Seq.{length-take-le, take_at}
-use borrow.Author.Tests.{lt-ltb, le-leb, lt-leb, leb-true, not-true, ne_eqb}
+use lib.ListN.{length, get_or, replicate}
+use borrow.Author.Tests.{lt-ltb, le-leb, leb-true, not-true, ne_eqb}
+use Rattle.std.specs.Prelude.{Option, Some, None}
 use Rattle.lines.specs.declared.requests.Request.{Request}
 use Rattle.lines.proofs.TestLaws.{and_left, and_right}
 use Rattle.shelf.specs.Members.{InRange}
-use Rattle.shelf.specs.Status.{Call, write, bad_address, code_of}
+use Rattle.shelf.specs.Status.{Call, write, read, fetch, bad_address, code_of}
 use Rattle.shelf.specs.Lent.{Lent, flag_at, listed_by, bad_measures, array_length, log_length, list_length, tries_list, input_rows, number_of, Answered}
 use Rattle.shelf.specs.declared.record.Geometry.{Geometry}
 use Rattle.shelf.specs.declared.record.Shelf.{Shelf}
@@ -22,26 +22,7 @@ use Rattle.shelf.proofs.general.TestLaws.{or_true}
 use Rattle.shelf.proofs.numbers.TableRows.{row_hit, row_other}
 use Rattle.shelf.proofs.numbers.InputLaws.{in_range_lem}
 use Rattle.shelf.proofs.lent.Holding.{answered_geometry}
-use Rattle.bench.specs.Bench.{fits, data_length, read_call, first_read, Performed}
-
--- ---- the data of a call
-
-pub no_data : (count n : ℕ) (b : ℕ) → b ≡ 0 → 0 ≡ data_length count b n
-unfolding data_length
-no_data count n b e = rw e (simp (mul-zero, le-leb 0 n (omega arith)))
-
-pub data_within : (count b n : ℕ) → count ≤ n / b → count * b ≤ n
-data_within count b n h = omega (arith, mul-le-mul_right b h, div-mul-le_self n b)
-
-pub data_all : (count b n : ℕ) → count ≤ n / b → count * b ≡ data_length count b n
-unfolding data_length
-data_all count b n h = simp (le-leb (count * b) n (data_within count b n h))
-
-pub data_none : (count b n : ℕ) → (b ≡ 0 → ⊥) → n / b < count → 0 ≡ data_length count b n
-unfolding data_length
-data_none count b n z h =
-    let p : 0 < b = omega arith in
-    simp (lt-leb (count * b) n ((div-lt_iff_lt-mul p).0 h))
+use Rattle.bench.specs.Bench.{fits, data_length, first_read, Performed}
 
 -- ---- the shelf's buffers
 
@@ -63,25 +44,11 @@ fitting g t =
 
 -- ---- what is lent for the data of a call, and what is found there
 
--- the first n bytes, filled with v, are v as often as was asked for
-pub filled : (n m v : ℕ) (bytes part : List ℕ) → n ≤ length bytes → part ≡ replicate (length (take n bytes)) v → n ≡ m
-    → take n (part ++ drop n bytes) ≡ replicate m v
-filled n m v bytes part h p e =
-    let q : part ≡ replicate n v = p ∙ ap (λ (k : ℕ). replicate k v) (length-take-le n bytes h) in
-    take_at part (drop n bytes) n (ap (λ (l : List ℕ). length l) q ∙ length-replicate n v) ∙ q ∙ ap (λ (k : ℕ). replicate k v) e
-
-pub part_length : (n : ℕ) (bytes part : List ℕ) → n ≤ length bytes → length part ≡ length (take n bytes) → n ≡ length (take n (part ++ drop n bytes))
-part_length n bytes part h l =
-    let k : length part ≡ n = l ∙ length-take-le n bytes h in
-    sym (ap (λ (xs : List ℕ). length xs) (take_at part (drop n bytes) n k) ∙ k)
-
 -- the first byte of an accepted read
-pub first_found : (code n : ℕ) (bytes part got : List ℕ) → n ≤ length bytes → length part ≡ length (take n bytes) → (code ≡ 0 → part ≡ got)
-    → first_read code (take n (part ++ drop n bytes)) ≡ first_read code got
+pub first_found : (code : ℕ) (part got : List ℕ) → (code ≡ 0 → part ≡ got) → first_read code part ≡ first_read code got
 unfolding first_read
-first_found zero n bytes part got h l same =
-    ap (λ (xs : List ℕ). get_or xs 0 0) (take_at part (drop n bytes) n (l ∙ length-take-le n bytes h) ∙ same refl)
-first_found (suc code) n bytes part got h l same = simp (ne_eqb (suc code) 0 (λ e. omega arith))
+first_found zero part got same = ap (λ (xs : List ℕ). get_or xs 0 0) (same refl)
+first_found (suc code) part got same = simp (ne_eqb (suc code) 0 (λ e. omega arith))
 
 -- each of the three buffers has room for its part
 pub rooms : (g : Geometry) → fits g ≡ true → (array_length g ≤ 32768) × ((log_length g ≤ 32768) × (list_length g ≤ 32768))
@@ -129,56 +96,60 @@ answered_alike h c c' code h' t t' e e' x =
       refused = x.refused;
     }
 
--- either read tests the list, and gets 4 for its address
-read_tries : (t : Bool) (a count k : ℕ) → tries_list (read_call t a count k) ≡ true
-unfolding tries_list
-read_tries true a count k = refl
-read_tries false a count k = refl
-
-read_four : (t : Bool) (h : Lent) (a count k : ℕ) → bad_address h.shelf.geometry a count ≡ true → rows_of h (read_call t a count k) ≡ 4
-unfolding rows_of code_of
-read_four true h a count k bad = sym (row_hit 4 (bad_address h.shelf.geometry a count) _ bad)
-read_four false h a count k bad = sym (row_hit 4 (bad_address h.shelf.geometry a count) _ bad)
-
 -- a write with the data that are lent is one with the data that are asked for, and so is a read
-pub write_as_asked : (h : Lent) (a count v n code : ℕ) (bytes : List ℕ) (h' : Lent) → fits h.shelf.geometry ≡ true → n ≡ 32768
-    → bytes ≡ replicate (data_length count h.shelf.geometry.b n) v → Answered h (write a count bytes) code h'
+pub write_as_asked : (h : Lent) (a count v code : ℕ) (bytes : List ℕ) (h' : Lent) → fits h.shelf.geometry ≡ true
+    → bytes ≡ replicate (data_length count h.shelf.geometry.b 32768) v → Answered h (write a count bytes) code h'
     → Answered h (write a count (replicate (count * h.shelf.geometry.b) v)) code h'
 unfolding data_length rows_of code_of tries_list
-write_as_asked h a count v n code bytes h' t l e x =
+write_as_asked h a count v code bytes h' t e x =
     let g : Geometry = h.shelf.geometry in
-    elim (dec_lt n (count * g.b)) [
+    elim (dec_lt 32768 (count * g.b)) [
       | yes m ↦
           let bad : bad_address g a count ≡ true = few-blocks g a count t (omega arith) in
           answered_alike h (write a count bytes) (write a count (replicate (count * g.b) v)) code h' refl refl
           (sym (row_hit 4 (bad_address g a count) _ bad)) (sym (row_hit 4 (bad_address g a count) _ bad)) x
-      | no q ↦ subst (λ (d : List ℕ). Answered h (write a count d) code h') (e ∙ simp (le-leb (count * g.b) n (omega arith))) x
+      | no q ↦ subst (λ (d : List ℕ). Answered h (write a count d) code h') (e ∙ simp (le-leb (count * g.b) 32768 (omega arith))) x
     ]
 
-pub read_as_asked : (t : Bool) (h : Lent) (a count n m code : ℕ) (h' : Lent) → fits h.shelf.geometry ≡ true → n ≡ 32768
-    → m ≡ data_length count h.shelf.geometry.b n → Answered h (read_call t a count m) code h'
-    → Answered h (read_call t a count (count * h.shelf.geometry.b)) code h'
-unfolding data_length
-read_as_asked t h a count n m code h' f l e x =
+pub read_as_asked : (h : Lent) (a count m code : ℕ) (h' : Lent) → fits h.shelf.geometry ≡ true
+    → m ≡ data_length count h.shelf.geometry.b 32768 → Answered h (read a count m) code h'
+    → Answered h (read a count (count * h.shelf.geometry.b)) code h'
+unfolding data_length rows_of code_of tries_list
+read_as_asked h a count m code h' f e x =
     let g : Geometry = h.shelf.geometry in
-    elim (dec_lt n (count * g.b)) [
+    elim (dec_lt 32768 (count * g.b)) [
       | yes k ↦
           let bad : bad_address g a count ≡ true = few-blocks g a count f (omega arith) in
-          answered_alike h (read_call t a count m) (read_call t a count (count * g.b)) code h' (read_tries t a count m) (read_tries t a count (count * g.b)) (read_four t h a count m bad) (read_four t h a count (count * g.b) bad) x
-      | no q ↦ subst (λ (d : ℕ). Answered h (read_call t a count d) code h') (e ∙ simp (le-leb (count * g.b) n (omega arith))) x
+          answered_alike h (read a count m) (read a count (count * g.b)) code h' refl refl
+          (sym (row_hit 4 (bad_address g a count) _ bad)) (sym (row_hit 4 (bad_address g a count) _ bad)) x
+      | no q ↦ subst (λ (d : ℕ). Answered h (read a count d) code h') (e ∙ simp (le-leb (count * g.b) 32768 (omega arith))) x
+    ]
+
+pub fetch_as_asked : (h : Lent) (a count m code : ℕ) (h' : Lent) → fits h.shelf.geometry ≡ true
+    → m ≡ data_length count h.shelf.geometry.b 32768 → Answered h (fetch a count m) code h'
+    → Answered h (fetch a count (count * h.shelf.geometry.b)) code h'
+unfolding data_length rows_of code_of tries_list
+fetch_as_asked h a count m code h' f e x =
+    let g : Geometry = h.shelf.geometry in
+    elim (dec_lt 32768 (count * g.b)) [
+      | yes k ↦
+          let bad : bad_address g a count ≡ true = few-blocks g a count f (omega arith) in
+          answered_alike h (fetch a count m) (fetch a count (count * g.b)) code h' refl refl
+          (sym (row_hit 4 (bad_address g a count) _ bad)) (sym (row_hit 4 (bad_address g a count) _ bad)) x
+      | no q ↦ subst (λ (d : ℕ). Answered h (fetch a count d) code h') (e ∙ simp (le-leb (count * g.b) 32768 (omega arith))) x
     ]
 
 -- ---- the geometry stays
 
-pub performed-geometry : (q : Request) (h : Lent) (code first : ℕ) (h' : Lent) → Performed q h code first h' → h'.shelf.geometry ≡ h.shelf.geometry
+pub performed-geometry : (q : Option Request) (h : Lent) (code first : ℕ) (h' : Lent) → Performed q h code first h' → h'.shelf.geometry ≡ h.shelf.geometry
 unfolding Performed
-performed-geometry Request.Start h code first h' p = answered_geometry h _ code h' p.0
-performed-geometry (Request.Write a n v) h code first h' p = answered_geometry h _ code h' p.0
-performed-geometry (Request.Read a n) h code first h' p = answered_geometry h _ code h' p.0
-performed-geometry (Request.Fetch a n) h code first h' p = answered_geometry h _ code h' p.0
-performed-geometry (Request.Fail j) h code first h' p = answered_geometry h _ code h' p.0
-performed-geometry Request.Resync h code first h' p = answered_geometry h _ code h' p.0
-performed-geometry Request.Rebuild h code first h' p = answered_geometry h _ code h' p.0
-performed-geometry Request.NewLog h code first h' p = answered_geometry h _ code h' p.0
-performed-geometry Request.FullResync h code first h' p = answered_geometry h _ code h' p.0
-performed-geometry Request.Unreadable h code first h' p = ap (λ (k : Lent). k.shelf.geometry) p.1.1
+performed-geometry (Some Request.Start) h code first h' p = answered_geometry h _ code h' p.0
+performed-geometry (Some (Request.Write a n v)) h code first h' p = answered_geometry h _ code h' p.0
+performed-geometry (Some (Request.Read a n)) h code first h' p = answered_geometry h _ code h' p.0
+performed-geometry (Some (Request.Fetch a n)) h code first h' p = answered_geometry h _ code h' p.0
+performed-geometry (Some (Request.Fail j)) h code first h' p = answered_geometry h _ code h' p.0
+performed-geometry (Some Request.Resync) h code first h' p = answered_geometry h _ code h' p.0
+performed-geometry (Some Request.Rebuild) h code first h' p = answered_geometry h _ code h' p.0
+performed-geometry (Some Request.NewLog) h code first h' p = answered_geometry h _ code h' p.0
+performed-geometry (Some Request.FullResync) h code first h' p = answered_geometry h _ code h' p.0
+performed-geometry None h code first h' p = ap (λ (k : Lent). k.shelf.geometry) p.1.1

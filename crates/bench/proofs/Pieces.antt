@@ -9,6 +9,7 @@ use mathlib.Core.Path.{◌≡◌, refl, sym, ap, ap₂, ◌∙◌, subst}
 use Prim.Native.Nat.{ℕ}
 use lib.Dec.{eqb}
 use lib.ListN.{take}
+use Rattle.std.specs.Prelude.{Option}
 use Rattle.lines.specs.AnswerLines.{columns_line}
 use Rattle.lines.specs.Held.{Keeps}
 use Rattle.lines.proofs.HeldLaws.{keeps-none}
@@ -49,33 +50,32 @@ joined [] = []
 joined (p ∷ ps) = p ++ joined ps
 
 -- A session is fed some pieces in turn, each as `feed` promises, and what is written of them is written in turn.
-pub data Fed : List (List ℕ) → Session → List ℕ → Lent → List ℕ → Session → List ℕ → Lent → Type 0 where
-  none : {s : Session} {line : List ℕ} {h : Lent} → Fed [] s line h [] s line h
-  piece : {p : List ℕ} {ps : List (List ℕ)} {s s'' : Session} {line line'' : List ℕ} {h h'' : Lent} {rest : List ℕ} (s' : Session) (line' : List ℕ) (h' : Lent) (out : List ℕ)
-      → Feeds p s line h s' line' h' out → Fed ps s' line' h' rest s'' line'' h'' → Fed (p ∷ ps) s line h (take s'.len out ++ rest) s'' line'' h''
+pub data Fed : List (List ℕ) → Session → List ℕ → Session → Type 0 where
+  none : {s : Session} → Fed [] s [] s
+  piece : {p : List ℕ} {ps : List (List ℕ)} {s s'' : Session} {rest : List ℕ} (s' : Session) (n : ℕ) (out : List ℕ)
+      → Feeds p s s' n out → Fed ps s' rest s'' → Fed (p ∷ ps) s (take n out ++ rest) s''
 
-pub in_pieces : {ps : List (List ℕ)} {s s' : Session} {line line' : List ℕ} {h h' : Lent} {text : List ℕ} → Fed ps s line h text s' line' h'
-    → (t : List ℕ) → Keeps line s.held t
-    → Transcript (lines_from t (joined ps)) s.stage h text s'.stage h' × Keeps line' s'.held (held_after t (joined ps))
+pub in_pieces : {ps : List (List ℕ)} {s s' : Session} {text : List ℕ} → Fed ps s text s' → (t : List ℕ) → Keeps s.line t
+    → Transcript (lines_from t (joined ps)) s.stage s.room text s'.stage s'.room × Keeps s'.line (held_after t (joined ps))
 unfolding joined lines_from held_after
 in_pieces none t k = (no_lines, k)
-in_pieces (piece {p} {ps} {s} {s''} {line} {line''} {h} {h''} {rest} u m g out f fs) t k =
+in_pieces (piece {p} {ps} {s} {s''} {rest} u n out f fs) t k =
     let r = in_pieces fs (held_after t p) (f.keeps t k) in (
-      subst (λ (ls : List (List ℕ)). Transcript ls s.stage h (take u.len out ++ rest) s''.stage h'') (sym (lines_then t p (joined ps)))
+      subst (λ (ls : List (List ℕ)). Transcript ls s.stage s.room (take n out ++ rest) s''.stage s''.room) (sym (lines_then t p (joined ps)))
           (transcript_then (f.transcript t k) r.0),
-      subst (Keeps line'' s''.held) (sym (held_then t p (joined ps))) r.1,
+      subst (Keeps s''.line) (sym (held_then t p (joined ps))) r.1,
     )
 
 -- ---- the whole input
 
-pub whole_input : {ps : List (List ℕ)} {s s' : Session} {line line' : List ℕ} {h h' : Lent} {text last : List ℕ} → Opened s → Fed ps s line h text s' line' h'
-    → Closes s' line' h' last → Written (joined ps) h (columns_line ++ (text ++ last))
+pub whole_input : {ps : List (List ℕ)} {s s' : Session} {text last : List ℕ} → Opened s → Fed ps s text s' → Closes s' last
+    → Written (joined ps) s.room (columns_line ++ (text ++ last))
 unfolding all_lines
-whole_input {ps} {s} {s'} {line} {line'} {h} {h'} {text} {last} o f e =
-    let begun : Keeps line s.held [] = subst (λ (n : ℕ). Keeps line n []) (sym o.1) (keeps-none line) in
+whole_input {ps} {s} {s'} {text} {last} o f e =
+    let begun : Keeps s.line [] = subst (λ (k : Option (List ℕ)). Keeps k []) (sym o.1) keeps-none in
     let r = in_pieces f [] begun in
-    let first : Transcript (lines_from [] (joined ps)) Stage.MeasureNames h text s'.stage h' =
-    subst (λ (k : Stage). Transcript (lines_from [] (joined ps)) k h text s'.stage h') o.0 r.0 in
+    let first : Transcript (lines_from [] (joined ps)) Stage.MeasureNames s.room text s'.stage s'.room =
+    subst (λ (k : Stage). Transcript (lines_from [] (joined ps)) k s.room text s'.stage s'.room) o.0 r.0 in
     record {
       stage = e.stage;
       shelf = e.shelf;
@@ -95,12 +95,14 @@ refused_all (l ∷ ls) h =
     one_more [] Stage.Refused h skipped (refused_all ls h)
 
 -- Where the measures are refused the program ends: whatever the rest of the input is, nothing is written of it.
-pub refused_input : {ps : List (List ℕ)} {s s' : Session} {line line' : List ℕ} {h h' : Lent} {text : List ℕ} → Opened s → Fed ps s line h text s' line' h'
-    → s'.stage ≡ Stage.Refused → (rest : List ℕ) → Written (joined ps ++ rest) h (columns_line ++ text)
+pub refused_input : {ps : List (List ℕ)} {s s' : Session} {text : List ℕ} → Opened s → Fed ps s text s' → s'.stage ≡ Stage.Refused → (rest : List ℕ)
+    → Written (joined ps ++ rest) s.room (columns_line ++ text)
 unfolding all_lines closing
-refused_input {ps} {s} {s'} {line} {line'} {h} {h'} {text} o f e rest =
+refused_input {ps} {s} {s'} {text} o f e rest =
+    let h : Lent = s.room in
+    let h' : Lent = s'.room in
     let input : List ℕ = joined ps in
-    let begun : Keeps line s.held [] = subst (λ (n : ℕ). Keeps line n []) (sym o.1) (keeps-none line) in
+    let begun : Keeps s.line [] = subst (λ (k : Option (List ℕ)). Keeps k []) (sym o.1) keeps-none in
     let first : Transcript (lines_from [] input) Stage.MeasureNames h text Stage.Refused h' =
     subst (λ (k : Stage). Transcript (lines_from [] input) k h text Stage.Refused h') o.0
     (subst (λ (k : Stage). Transcript (lines_from [] input) s.stage h text k h') e (in_pieces f [] begun).0) in

@@ -1,7 +1,7 @@
 -- Laws of one line of a session: what is lent of the program's buffers, a shelf that is set up, a call that is answered.
 -- Assumes nothing.
 use mathlib.Core.Bool.{true, false, not, false≢true}
-use mathlib.Core.List.{List, ◌++◌}
+use mathlib.Core.List.{List, [], ◌++◌}
 use mathlib.Core.Path.{◌≡◌, refl, sym, ap, ◌∙◌, subst}
 use Prim.Native.Nat.{ℕ, ◌≤◌}
 use native.Mathlib.Omega.{arith}
@@ -13,7 +13,7 @@ use Rattle.lines.specs.RequestLines.{request_line}
 use Rattle.lines.specs.AnswerLines.{answer_line, format_line}
 use Rattle.lines.specs.Walking.{Puts}
 use Rattle.lines.specs.declared.measures.Measures.{Measures}
-use Rattle.lines.specs.declared.measures.Measures.TheVariants.{Six, Unreadable}
+use Rattle.std.specs.Prelude.{Option, Some, None}
 use Rattle.lines.specs.declared.requests.Request.{Request}
 use Rattle.lines.proofs.AnswerLaws.{puts_front, puts_within}
 use Rattle.lines.proofs.TestLaws.{and_left}
@@ -22,8 +22,8 @@ use Rattle.shelf.specs.Status.{row}
 use Rattle.shelf.specs.Lent.{Lent, lent, array_length, log_length, list_length, bad_measures, bad_lengths, format_code, formatted, format_leaves}
 use Rattle.shelf.specs.declared.record.Geometry.{Geometry}
 use Rattle.shelf.specs.declared.record.Shelf.{Shelf}
-use Rattle.bench.specs.Bench.{geometry_of, fits, Performed, answer_of}
-use Rattle.bench.specs.Sessions.{format_number, Opens, Answers, Taking, lent_parts}
+use Rattle.bench.specs.Bench.{geometry_of, fits, lent_parts, Performed, answer_of}
+use Rattle.bench.specs.Sessions.{format_number, Opens, Answers, Takes, Taking}
 use Rattle.bench.specs.declared.session.Session.{Session}
 use Rattle.bench.specs.declared.session.Stage.{Stage}
 use Rattle.bench.proofs.BenchLaws.{performed-geometry}
@@ -69,7 +69,7 @@ module _ {g : Geometry} {a l t : ℕ} {array log list pa pl pt : List ℕ} (P : 
   }
 
   -- a request that is performed on the parts
-  pub performed_in : (q : Request) (r r' : Shelf) (code first : ℕ) → r.geometry ≡ g
+  pub performed_in : (q : Option Request) (r r' : Shelf) (code first : ℕ) → r.geometry ≡ g
       → Performed q (lent r (take a array) (take l log) (take t list)) code first (lent r' pa pl pt)
       → Performed q (lent_parts r array log list) code first (lent_parts r' (pa ++ drop a array) (pl ++ drop l log) (pt ++ drop t list))
   performed_in q r r' code first e p =
@@ -99,62 +99,71 @@ module _ {g : Geometry} {a l t : ℕ} {array log list pa pl pt : List ℕ} (P : 
 
 -- ---- measures
 
-pub number_refused : (m : Measures) → fits (geometry_of m) ≡ false → format_number m ≡ 1
+pub number_refused : (m : Option Measures) → fits (geometry_of m) ≡ false → format_number m ≡ 1
 unfolding format_number
-number_refused (Six d s b l h e) f = simp f
-number_refused Unreadable f = refl
+number_refused (Some m) f = simp f
+number_refused None f = refl
 
-pub number_made : (m : Measures) → fits (geometry_of m) ≡ true → format_number m ≡ 0
+pub number_made : (m : Option Measures) → fits (geometry_of m) ≡ true → format_number m ≡ 0
 unfolding format_number fits bad_measures geometry_of
-number_made (Six d s b l h e) f = simp f
-number_made Unreadable f = absurd (false≢true f)
+number_made (Some m) f = simp f
+number_made None f = absurd (false≢true f)
 
-pub opens_refused : (line : List ℕ) (h : Lent) (r : Session) (out fin : List ℕ) → length out ≡ 128 → length fin ≡ length out
-    → fits (geometry_of (measures_line line)) ≡ false → Puts out 0 (format_line 1) fin r.len → r.stage ≡ Stage.Refused → Taking (Opens line h) r h fin
+pub opens_refused : (line : List ℕ) (h : Lent) (r : Session) (n : ℕ) (out fin : List ℕ) → length out ≡ 128 → length fin ≡ length out
+    → fits (geometry_of (measures_line line)) ≡ false → Puts out 0 (format_line 1) fin n → r.stage ≡ Stage.Refused → r.room ≡ h → Taking (Opens line h) r n fin
 unfolding choose
-opens_refused line h r out fin room kept f put s =
-    let n : format_number (measures_line line) ≡ 1 = number_refused (measures_line line) f in
+opens_refused line h r n out fin room kept f put s e =
+    let k : format_number (measures_line line) ≡ 1 = number_refused (measures_line line) f in
     record {
       made = record {
-        written = puts_front put ∙ ap format_line (sym n);
-        stage = rw n s;
-        shelf = rw n refl;
+        written = puts_front put ∙ ap format_line (sym k);
+        stage = rw k s;
+        shelf = rw k e;
       };
-      ready = rw s tt;
       few = omega (arith, puts_within put kept);
     }
 
-pub opens_made : (line : List ℕ) (h : Lent) (r : Session) (h' : Lent) (out fin : List ℕ) → length out ≡ 128 → length fin ≡ length out
-    → fits (geometry_of (measures_line line)) ≡ true → Puts out 0 (format_line 0) fin r.len → r.stage ≡ Stage.CallNames
-    → h' ≡ formatted (geometry_of (measures_line line)) → r.shelf ≡ h'.shelf → Taking (Opens line h) r h' fin
-unfolding choose formatted
-opens_made line h r h' out fin room kept f put s e g =
-    let n : format_number (measures_line line) ≡ 0 = number_made (measures_line line) f in
+pub opens_made : (line : List ℕ) (h : Lent) (r : Session) (n : ℕ) (out fin : List ℕ) → length out ≡ 128 → length fin ≡ length out
+    → fits (geometry_of (measures_line line)) ≡ true → Puts out 0 (format_line 0) fin n → r.stage ≡ Stage.CallNames
+    → r.room ≡ formatted (geometry_of (measures_line line)) → Taking (Opens line h) r n fin
+unfolding choose
+opens_made line h r n out fin room kept f put s e =
+    let k : format_number (measures_line line) ≡ 0 = number_made (measures_line line) f in
     record {
       made = record {
-        written = puts_front put ∙ ap format_line (sym n);
-        stage = rw n s;
-        shelf = rw n e;
+        written = puts_front put ∙ ap format_line (sym k);
+        stage = rw k s;
+        shelf = rw k e;
       };
-      ready = rw s (ap (λ (k : Shelf). fits k.geometry) g ∙ ap (λ (k : Lent). fits k.shelf.geometry) e ∙ f);
       few = omega (arith, puts_within put kept);
     }
+
+-- a fresh shelf has the geometry that it was made for
+pub formatted-fits : (g : Geometry) → fits g ≡ true → fits (formatted g).shelf.geometry ≡ true
+unfolding formatted
+formatted-fits g f = f
 
 -- ---- a call
 
-pub answers_made : (line : List ℕ) (h : Lent) (r : Session) (h' : Lent) (q : Request) (code first : ℕ) (out fin : List ℕ) → length out ≡ 128
-    → length fin ≡ length out → fits h.shelf.geometry ≡ true → q ≡ request_line line → Performed q h code first h' → r.shelf ≡ h'.shelf
-    → Puts out 0 (answer_line q (answer_of (record { code = code; first = first; shelf = h'.shelf }))) fin r.len → r.stage ≡ Stage.Calls
-    → Taking (Answers line h) r h' fin
-answers_made line h r h' q code first out fin room kept f e p g put s =
+pub answers_made : (line : List ℕ) (h : Lent) (r : Session) (q : Option Request) (code first n : ℕ) (out fin : List ℕ) → length out ≡ 128
+    → length fin ≡ length out → q ≡ request_line line → Performed q h code first r.room
+    → Puts out 0 (answer_line q (answer_of (record { code = code; first = first; shelf = r.room.shelf }))) fin n → r.stage ≡ Stage.Calls
+    → Taking (Answers line h) r n fin
+answers_made line h r q code first n out fin room kept e p put s =
     record {
       made = record {
         code = code;
         first = first;
-        performed = subst (λ (k : Request). Performed k h code first h') e p;
-        written = puts_front put ∙ ap (λ (k : Request). answer_line k (answer_of (record { code = code; first = first; shelf = h'.shelf }))) e;
+        performed = subst (λ (k : Option Request). Performed k h code first r.room) e p;
+        written = puts_front put ∙ ap (λ (k : Option Request). answer_line k (answer_of (record { code = code; first = first; shelf = r.room.shelf }))) e;
         stage = s;
       };
-      ready = rw s (ap (λ (k : Shelf). fits k.geometry) g ∙ ap fits (performed-geometry q h code first h' p) ∙ f);
       few = omega (arith, puts_within put kept);
     }
+
+-- after refused measures a line is skipped
+pub refused_made : (line : List ℕ) (r : Session) (out : List ℕ) → r.stage ≡ Stage.Refused → Taking (Takes line r.stage r.room) r 0 out
+unfolding Takes
+refused_made line r out e =
+    let refused : Takes line Stage.Refused r.room [] r.stage r.room = record { written = refl; stage = e; shelf = refl } in
+    record { made = subst (λ (s : Stage). Takes line s r.room [] r.stage r.room) (sym e) refused; few = omega arith }

@@ -1,19 +1,15 @@
 -- A session of the bench program: the lines that its input holds, what is made of each in its turn, and what is written of it. The input comes in pieces;
 -- of each it is said which lines end in it, whatever the pieces are.
 -- Assumes nothing.
-use Rattle.std.specs.Prelude.{Bool, true, false, cond, List, [], ◌∷◌, ◌++◌, ◌≡◌, ℕ, ◌≤◌, ◌<◌, eqb, length, take, drop}
+use Rattle.std.specs.Prelude.{Bool, true, false, cond, List, [], ◌∷◌, ◌++◌, ◌≡◌, ℕ, Option, Some, None, ◌≤◌, eqb, length, take}
 use Rattle.lines.specs.declared.measures.Measures.{Measures}
-use Rattle.lines.specs.declared.measures.Measures.TheVariants.{Six, Unreadable}
 use Rattle.lines.specs.MeasureLines.{measures_line}
 use Rattle.lines.specs.RequestLines.{request_line}
 use Rattle.lines.specs.AnswerLines.{answer_line, format_line, columns_line}
 use Rattle.lines.specs.Held.{Keeps}
 use Rattle.shelf.specs.Counting.{choose}
-use Rattle.shelf.specs.Lent.{Lent, lent, array_length, log_length, list_length, formatted}
-use Rattle.shelf.specs.declared.record.Geometry.{Geometry}
-use Rattle.shelf.specs.declared.record.Shelf.{Shelf}
+use Rattle.shelf.specs.Lent.{Lent, formatted}
 use Rattle.bench.specs.Bench.{geometry_of, fits, Performed, answer_of}
-use Rattle.bench.specs.declared.input.Taken.{Taken}
 use Rattle.bench.specs.declared.session.Session.{Session}
 use Rattle.bench.specs.declared.session.Stage.{Stage}
 
@@ -41,9 +37,9 @@ all_lines input = lines_from [] input ++ last_line (held_after [] input)
 -- ---- one line
 
 -- the number in format's line: 1 for measures that can't be read, for bad ones, and for a shelf that has no room; else 0
-unfoldable pub format_number : Measures → ℕ
-format_number (Six d s b l h e) = cond (fits (geometry_of (Six d s b l h e))) 0 1
-format_number Unreadable = 1
+unfoldable pub format_number : Option Measures → ℕ
+format_number (Some m) = cond (fits (geometry_of (Some m))) 0 1
+format_number None = 1
 
 -- A line of measures: format's line is written. With number 0 a fresh shelf is lent, and calls come after a second line of names; else no line is
 -- answered any more.
@@ -92,8 +88,8 @@ is_refused Stage.Refused = true
 
 -- what is written at the end of the input: format's refusal, where no measures came; a second line of names may be missing
 unfoldable pub closing : Stage → List ℕ
-closing Stage.MeasureNames = format_line (format_number Unreadable)
-closing Stage.Measures = format_line (format_number Unreadable)
+closing Stage.MeasureNames = format_line (format_number None)
+closing Stage.Measures = format_line (format_number None)
 closing Stage.CallNames = []
 closing Stage.Calls = []
 closing Stage.Refused = []
@@ -109,69 +105,29 @@ pub record Written (input : List ℕ) (h : Lent) (output : List ℕ) : Type 0 wh
 
 -- ---- in the program
 
--- a shelf in the program's buffers: of each the first bytes, as many as its geometry takes
-abbrev pub lent_parts : Shelf → List ℕ → List ℕ → List ℕ → Lent
-lent_parts r a n l = lent r (take (array_length r.geometry) a) (take (log_length r.geometry) n) (take (list_length r.geometry) l)
-
--- the buffers of array, log and list have 32,768 bytes each; and so has that of a call's data
-abbrev pub ShelfLengths : List ℕ → List ℕ → List ℕ → Type 0
-ShelfLengths a n l = (length a ≡ 32768) × ((length n ≡ 32768) × (length l ≡ 32768))
-
-abbrev pub BufferLengths : List ℕ → List ℕ → List ℕ → List ℕ → Type 0
-BufferLengths a n l data' = (length a ≡ 32768) × ((length n ≡ 32768) × ((length l ≡ 32768) × (length data' ≡ 32768)))
-
--- from the second line of names on there is a shelf, which has room
-abbrev pub ReadyAt : Stage → Geometry → Type 0
-ReadyAt Stage.MeasureNames g = Unit {0}
-ReadyAt Stage.Measures g = Unit {0}
-ReadyAt Stage.CallNames g = fits g ≡ true
-ReadyAt Stage.Calls g = fits g ≡ true
-ReadyAt Stage.Refused g = Unit {0}
-
--- a session between two pieces of the input, with the buffer that keeps the line which is begun: there is such a line
-abbrev pub Ready : Session → List ℕ → Type 0
-Ready s line = ReadyAt s.stage s.shelf.geometry × ((s.held ≤ 129) × ((t : List ℕ) × Keeps line s.held t))
-
 -- a session before its first line
 abbrev pub Opened : Session → Type 0
-Opened s = (s.stage ≡ Stage.MeasureNames) × (s.held ≡ 0)
+Opened s = (s.stage ≡ Stage.MeasureNames) × (s.line ≡ Some [])
 
--- Bytes xs came after t, which is held of a line. The line begun, t and then bytes of xs, is kept in the buffer: up to its newline, with ys left behind
--- that, or up to the end of xs.
-pub record Begins (t xs : List ℕ) (line : List ℕ) (r : Taken) (ys : List ℕ) : Type 0 where
-  pub begun : List ℕ
-  pub keeps : Keeps line r.held begun
-  pub lines : lines_from t xs ≡ choose r.ended (begun ∷ lines_from [] ys) []
-  pub held : held_after t xs ≡ choose r.ended (held_after [] ys) begun
+-- What is to be made of a line was made: n bytes of text are in out, and stage and shelf are those after it.
+pub record Taking (Made : List ℕ → Stage → Lent → Type 0) (r : Session) (n : ℕ) (out : List ℕ) : Type 0 where
+  pub made : Made (take n out) r.stage r.room
+  pub few : n ≤ 128
 
--- The input from an index on was held up to a newline or its end, whatever line was begun before.
-pub record Holds (before : List ℕ) (n : ℕ) (input : List ℕ) (from : ℕ) (line : List ℕ) (r : Taken) : Type 0 where
-  pub most : r.held ≤ 129
-  pub within : r.at ≤ length input
-  pub onward : r.ended ≡ true → from < r.at
-  pub text : (t : List ℕ) → Keeps before n t → Begins t (drop from input) line r (drop r.at input)
-
--- What is to be made of a line was made: the text is in out, as long as the session tells, and stage and shelf are those after it.
-pub record Taking (Made : List ℕ → Stage → Lent → Type 0) (r : Session) (h : Lent) (out : List ℕ) : Type 0 where
-  pub made : Made (take r.len out) r.stage h
-  pub ready : ReadyAt r.stage r.shelf.geometry
-  pub few : r.len ≤ 128
-
--- A piece of the input was taken: every line that ends in it, in its order, and what is behind the last newline is kept.
-pub record Feeds (input : List ℕ) (from : Session) (line : List ℕ) (h : Lent) (r : Session) (line' : List ℕ) (h' : Lent) (out : List ℕ) : Type 0 where
-  pub ready : Ready r line'
-  pub within : r.len ≤ length out
-  pub transcript : (t : List ℕ) → Keeps line from.held t → Transcript (lines_from t input) from.stage h (take r.len out) r.stage h'
-  pub keeps : (t : List ℕ) → Keeps line from.held t → Keeps line' r.held (held_after t input)
+-- A piece of the input was taken: every line that ends in it, in its order, of which n bytes are written in out, and what is behind the last newline is kept.
+pub record Feeds (input : List ℕ) (from r : Session) (n : ℕ) (out : List ℕ) : Type 0 where
+  pub within : n ≤ length out
+  pub transcript : (t : List ℕ) → Keeps from.line t → Transcript (lines_from t input) from.stage from.room (take n out) r.stage r.room
+  pub keeps : (t : List ℕ) → Keeps from.line t → Keeps r.line (held_after t input)
 
 -- At the end of the input the line that is begun was taken, if a byte of it came.
-abbrev pub Ends : Session → List ℕ → Lent → Stage → Lent → List ℕ → Type 0
-Ends from line h s h' text = (t : List ℕ) → Keeps line from.held t → Transcript (last_line t) from.stage h text s h'
+abbrev pub Ends : Session → Stage → Lent → List ℕ → Type 0
+Ends from s h' text = (t : List ℕ) → Keeps from.line t → Transcript (last_line t) from.stage from.room text s h'
 
 -- And then what is written at the end.
-pub record Closes (from : Session) (line : List ℕ) (h : Lent) (text : List ℕ) : Type 0 where
+pub record Closes (from : Session) (text : List ℕ) : Type 0 where
   pub stage : Stage
   pub shelf : Lent
   pub text_of_line : List ℕ
-  pub ends : Ends from line h stage shelf text_of_line
+  pub ends : Ends from stage shelf text_of_line
   pub written : text ≡ text_of_line ++ closing stage

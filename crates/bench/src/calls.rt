@@ -1,14 +1,15 @@
 // Requests as calls on a shelf.
-ghost use Rattle.std.specs.Prelude.{true, ◌≡◌, ◌*◌, length, replicate};
+ghost use Rattle.std.specs.Prelude.{true, ◌≡◌, ◌*◌, Option, replicate};
 ghost use Rattle.shelf.specs.Lent.{lent, Answered};
-ghost use Rattle.shelf.specs.Status.{resync, write};
-ghost use Rattle.bench.specs.Bench.{fits, read_call, handed, first_read, Performed};
+ghost use Rattle.shelf.specs.Status.{write};
+ghost use Rattle.bench.specs.Bench.{fits, first_read, Performed, answer_of};
 
 use super::room;
 use lines::requests::Request;
 use shelf::record::Shelf;
+use shelf::{Answer, Resynced};
 
-// What came of a request: the number, the first byte read (0 if none), and the record after it.
+// What came of a request: the number and the first byte read (0 if none), as the line of the answer has them, and the record after it.
 #[derive(Clone, Copy)]
 pub struct Outcome {
     pub code: usize,
@@ -19,6 +20,81 @@ pub struct Outcome {
 // The number of a line that can't be read.
 const BAD_LINE: usize = 15;
 
+// What comes of a line that can't be read: its number, and the record as it is.
+pub fn bad_line(shelf: Shelf) -> Outcome
+    ensures { result ≡ record { code = 15; first = 0; shelf = shelf } }
+{
+    Outcome {
+        code: BAD_LINE,
+        first: 0,
+        shelf,
+    }
+}
+
+// The outcome of a call that reads no byte.
+impl From<Answer> for Outcome {
+    ghost from_gives = { λ a o. o ≡ record { code = a.code; first = 0; shelf = a.shelf } };
+
+    fn from(a: Answer) -> Outcome {
+        Outcome {
+            code: a.code,
+            first: 0,
+            shelf: a.shelf,
+        }
+    }
+}
+
+// The outcome of a resync; the stripe that it tells is not written. C knows two structs, so there are two conversions.
+impl From<Resynced> for Outcome {
+    ghost from_gives = { λ a o. o ≡ record { code = a.code; first = 0; shelf = a.shelf } };
+
+    fn from(a: Resynced) -> Outcome {
+        Outcome {
+            code: a.code,
+            first: 0,
+            shelf: a.shelf,
+        }
+    }
+}
+
+// The answer that is written of an outcome.
+impl From<Outcome> for lines::answers::Answer {
+    ghost from_gives = { λ o a. a ≡ answer_of o };
+
+    fn from(o: Outcome) -> lines::answers::Answer {
+        lines::answers::Answer {
+            code: o.code,
+            mode: o.shelf.mode,
+            listed: o.shelf.listed,
+            next: o.shelf.next,
+            first: o.first as usize,
+        }
+    }
+}
+
+// The outcome of a read, of which the first byte is told.
+fn outcome_of_read(a: Answer, read: &[u8]) -> Outcome
+    ensures { result ≡ record { code = a.code; first = first_read a.code read.now; shelf = a.shelf } }
+{
+    Outcome {
+        code: a.code,
+        first: first_of(a.code, read),
+        shelf: a.shelf,
+    }
+}
+
+// The first byte of what a read with this code left, or 0.
+#[tactic(auto, unfolding(crate::specs::Bench::first_read))]
+fn first_of(code: usize, read: &[u8]) -> u8
+    ensures { result ≡ first_read code read.now }
+{
+    if code == 0 {
+        read.first().copied().unwrap_or(0)
+    } else {
+        0
+    }
+}
+
 // Makes the call that a request asks for. The data of a write are made, and those of a read are put, in bytes.
 pub fn perform(
     shelf: Shelf,
@@ -26,155 +102,34 @@ pub fn perform(
     array: &mut [u8],
     log: &mut [u8],
     list: &mut [u8],
-    bytes: &mut [u8],
+    bytes: &mut [u8; 32768],
 ) -> Outcome
-    requires geometry_value { fits shelf.geometry ≡ true }
-    requires bytes_len { length bytes.old ≡ 32768 }
-    ensures { Performed request (lent shelf array.old log.old list.old) result.code result.first
+    requires { fits shelf.geometry ≡ true }
+    ensures { Performed (Some request) (lent shelf array.old log.old list.old) result.code result.first
         (lent result.shelf array.new log.new list.new) }
 {
+    let b = shelf.geometry.b;
     match request {
-        Request::Start => told(shelf::shelf_start(shelf, array, log, list)),
+        Request::Start => shelf::shelf_start(shelf, array, log, list).into(),
         Request::Write(address, count, v) => {
-            write_fill(shelf, address, count, v, array, log, list, bytes)
+            let source = &mut bytes[..room::data_length(count, b)];
+            source.fill(v);
+            shelf::shelf_write(shelf, address, count, source, array, log, list).into()
         }
         Request::Read(address, count) => {
-            read_first(shelf, address, count, false, array, log, list, bytes)
+            let out = &mut bytes[..room::data_length(count, b)];
+            let a = shelf::shelf_read(shelf, address, count, out, array, log, list);
+            outcome_of_read(a, out)
         }
         Request::Fetch(address, count) => {
-            read_first(shelf, address, count, true, array, log, list, bytes)
+            let out = &mut bytes[..room::data_length(count, b)];
+            let a = shelf::shelf_fetch(shelf, address, count, out, array, log, list);
+            outcome_of_read(a, out)
         }
-        Request::Fail(member) => told(shelf::shelf_fail(shelf, member, array, log, list)),
-        Request::Resync => resync(shelf, array, log, list),
-        Request::Rebuild => told(shelf::shelf_rebuild(shelf, array, log, list)),
-        Request::NewLog => told(shelf::shelf_new_log(shelf, array, log, list)),
-        Request::FullResync => told(shelf::shelf_full_resync(shelf, array, log, list)),
-        Request::Unreadable => Outcome {
-            code: BAD_LINE,
-            first: 0,
-            shelf,
-        },
+        Request::Fail(member) => shelf::shelf_fail(shelf, member, array, log, list).into(),
+        Request::Resync => shelf::shelf_resync(shelf, array, log, list).into(),
+        Request::Rebuild => shelf::shelf_rebuild(shelf, array, log, list).into(),
+        Request::NewLog => shelf::shelf_new_log(shelf, array, log, list).into(),
+        Request::FullResync => shelf::shelf_full_resync(shelf, array, log, list).into(),
     }
-}
-
-// The outcome of a call that reads no byte.
-fn told(a: shelf::Answer) -> Outcome
-    ensures { result ≡ record { code = a.code; first = 0; shelf = a.shelf } }
-{
-    let s = a.shelf;
-    Outcome {
-        code: a.code,
-        first: 0,
-        shelf: s,
-    }
-}
-
-// A resync; the stripe that it tells is not written.
-fn resync(shelf: Shelf, array: &mut [u8], log: &[u8], list: &mut [u8]) -> Outcome
-    ensures answered { Answered (lent shelf array.old log.now list.old) resync result.code
-        (lent result.shelf array.new log.now list.new) }
-    ensures first_value { result.first ≡ 0 }
-{
-    let a = shelf::shelf_resync(shelf, array, log, list);
-    let s = a.shelf;
-    Outcome {
-        code: a.code,
-        first: 0,
-        shelf: s,
-    }
-}
-
-// A write of count blocks from an address on, each byte of which is v. Where there is no room for their bytes the shelf has fewer blocks: the
-// write is then refused for its address, whatever the data are, and none are lent.
-fn write_fill(
-    shelf: Shelf,
-    address: usize,
-    count: usize,
-    v: u8,
-    array: &mut [u8],
-    log: &mut [u8],
-    list: &mut [u8],
-    bytes: &mut [u8],
-) -> Outcome
-    requires geometry_value { fits shelf.geometry ≡ true }
-    requires bytes_len { length bytes.old ≡ 32768 }
-    ensures answered { Answered (lent shelf array.old log.old list.old)
-        (write address count (replicate (count * shelf.geometry.b) v)) result.code (lent result.shelf array.new log.new list.new) }
-    ensures first_value { result.first ≡ 0 }
-{
-    let g = shelf.geometry;
-    let n = room::data_length(count, g.b, bytes.len());
-    shelf::fill(&mut bytes[..n], v);
-    told(shelf::shelf_write(shelf, address, count, &bytes[..n], array, log, list))
-}
-
-// A read of count blocks from an address on, the recovering one or the plain one, of which the first byte is told.
-fn read_first(
-    shelf: Shelf,
-    address: usize,
-    count: usize,
-    recovering: bool,
-    array: &[u8],
-    log: &[u8],
-    list: &[u8],
-    bytes: &mut [u8],
-) -> Outcome
-    requires geometry_value { fits shelf.geometry ≡ true }
-    requires bytes_len { length bytes.old ≡ 32768 }
-    ensures answered { Answered (lent shelf array.now log.now list.now)
-        (read_call recovering address count (count * shelf.geometry.b)) result.code (lent result.shelf array.now log.now list.now) }
-    ensures first_value { result.first ≡ first_read result.code (handed recovering (lent shelf array.now log.now list.now) address count) }
-{
-    let g = shelf.geometry;
-    let n = room::data_length(count, g.b, bytes.len());
-    let a = read_into(
-        shelf,
-        address,
-        count,
-        recovering,
-        &mut bytes[..n],
-        array,
-        log,
-        list,
-    );
-    let s = a.shelf;
-    Outcome {
-        code: a.code,
-        first: first_of(a.code, &bytes[..n]),
-        shelf: s,
-    }
-}
-
-// A read of count blocks from an address on into out, the recovering one or the plain one.
-fn read_into(
-    shelf: Shelf,
-    address: usize,
-    count: usize,
-    recovering: bool,
-    out: &mut [u8],
-    array: &[u8],
-    log: &[u8],
-    list: &[u8],
-) -> shelf::Answer
-    ensures answered { Answered (lent shelf array.now log.now list.now)
-        (read_call recovering address count (length out.old)) result.code (lent result.shelf array.now log.now list.now) }
-    ensures out_after { result.code ≡ 0 → out.new ≡ handed recovering (lent shelf array.now log.now list.now) address count }
-{
-    if recovering {
-        return shelf::shelf_fetch(shelf, address, count, out, array, log, list);
-    }
-    shelf::shelf_read(shelf, address, count, out, array, log, list)
-}
-
-// The first byte of what a read with this code left, or 0.
-fn first_of(code: usize, bytes: &[u8]) -> u8
-    ensures { result ≡ first_read code bytes.now }
-{
-    if code != 0 {
-        return 0;
-    }
-    if bytes.len() == 0 {
-        return 0;
-    }
-    bytes[0]
 }

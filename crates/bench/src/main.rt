@@ -4,37 +4,21 @@
 #![tactic(auto)]
 
 mod calls;
-mod input;
 mod room;
-mod serve;
 mod session;
 
 ghost use Rattle.std.specs.Prelude.{◌≡◌, length};
-ghost use Rattle.bench.specs.Sessions.{BufferLengths};
 
+use session::Session;
 use std::io;
 use std::io::{Read, Stdin, Stdout, Write};
 
-// The buffers of the input, of the output, of a shelf and of a call's data are made once.
+// The buffers of the input, of the output, and of the session with its shelf are made once.
 fn main(rt: HostRuntime) -> io::Result<()> {
-    let mut input = [0u8; 512];
-    let mut line = [0u8; 128];
-    let mut array = room::buffer();
-    let mut log = room::buffer();
-    let mut list = room::buffer();
-    let mut bytes = room::buffer();
-    let mut out = room::large_buffer();
-    run(
-        rt.stdin(),
-        rt.stdout(),
-        &mut input,
-        &mut line,
-        &mut array,
-        &mut log,
-        &mut list,
-        &mut bytes,
-        &mut out,
-    )
+    let mut input = [0; 512];
+    let mut out = [0; 65536];
+    let mut session = Session::new();
+    run(rt.stdin(), rt.stdout(), &mut session, &mut input, &mut out)
 }
 
 // Writes the names of the columns, then takes the input piece by piece and writes what comes of each, up to the input's end or to measures
@@ -43,33 +27,23 @@ fn main(rt: HostRuntime) -> io::Result<()> {
 fn run(
     mut from: Stdin,
     mut to: Stdout,
+    session: &mut Session,
     input: &mut [u8],
-    line: &mut [u8],
-    array: &mut [u8],
-    log: &mut [u8],
-    list: &mut [u8],
-    bytes: &mut [u8],
     out: &mut [u8],
 ) -> io::Result<()>
-    requires input_len { (length input.old ≡ 512) × (length line.old ≡ 128) }
-    requires buffer_lengths { BufferLengths array.old log.old list.old bytes.old }
+    requires input_len { length input.old ≡ 512 }
     requires out_len { length out.old ≡ 65536 }
 {
     write_columns(&mut to, out)?;
-    let mut session = session::opened();
     for _ in 0..u64::MAX {
-        let n = match from.read(input) {
-            Ok(n) => n,
-            Err(_) => 0,
-        };
+        let n = from.read(input).unwrap_or(0);
         if n == 0 {
-            let last = session::close(session, line, array, log, list, bytes, out);
+            let last = session.close(out);
             return to.write_all(&out[..last]);
         }
-        session = session::feed(session, &input[..n], line, array, log, list, bytes, out);
-        let len = session.len;
+        let len = session.feed(&input[..n], out);
         to.write_all(&out[..len])?;
-        if session::is_refused(session) {
+        if session.is_refused() {
             return Ok(());
         }
     }

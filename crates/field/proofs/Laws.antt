@@ -4,8 +4,8 @@
 -- The sum: exclusive or is a group in which each element is its own inverse.
 -- xor_assoc, xor_comm, xor_zero_l, xor_zero_r, xor_self; xor_cancel: a + (a + b) is b; xor_eq_zero: a + b is 0 only where a is b;
 -- xor_left_comm and xor_swap change the order of three and of four; xor_byte: the sum of two bytes is a byte.
-pub use lib.Bits.{xor_comm, xor_zero_l, xor_zero_r, xor_self}
-pub use Rattle.field.proofs.Xor.{xor_assoc, xor_left_comm, xor_swap, xor_cancel, xor_eq_zero}
+pub use lib.Bits.{xor_assoc, xor_comm, xor_zero_l, xor_zero_r, xor_self}
+pub use Rattle.field.proofs.Xor.{xor_left_comm, xor_swap, xor_cancel, xor_eq_zero}
 pub use Rattle.field.proofs.ProductLaws.{xor_byte}
 -- Doubling is linear, and is the product with 2.
 pub use Rattle.field.proofs.ProductLaws.{double_byte, double_zero, double_xor, double_times, times_double_l}

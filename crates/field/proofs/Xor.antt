@@ -1,10 +1,9 @@
--- The laws of exclusive or that lib.Bits lacks: it is associative, and works digit by digit.
+-- The laws of exclusive or that lib.Bits lacks: sums in another order, and sums digit by digit.
 -- Assumes nothing.
-use mathlib.Core.Path.{◌≡◌, refl, sym, ap, ap₂, ◌∙◌}
-use Prim.Native.Nat.{ℕ, zero, suc, ◌+◌, ◌*◌, ◌/◌, ◌%◌, ◌<◌}
+use mathlib.Core.Path.{◌≡◌, sym, ap, ap₂, ◌∙◌}
+use Prim.Native.Nat.{ℕ, zero, suc, ◌*◌, ◌%◌, ◌<◌}
 use native.Mathlib.Nat.{le_of_suc-le-suc, not-suc-le-zero, mod-lt, zero-lt-suc, add-zero, zero-mul, one-mul}
-use lib.Arith.{bin_ind}
-use lib.Bits.{bit_xor, differ, xor_step, xor_shr, xor_mod, xor_comm, xor_self, xor_zero_r, xor_block}
+use lib.Bits.{bit_xor, xor_assoc, xor_comm, xor_self, xor_zero_r, xor_block}
 
 -- what holds of 0 and of 1 holds of a digit
 pub digit : (P : ℕ → Type 0) → P 0 → P 1 → (x : ℕ) → x < 2 → P x
@@ -14,26 +13,6 @@ digit P p q (suc (suc x)) h = absurd (not-suc-le-zero (le_of_suc-le-suc (le_of_s
 
 pub odd_lt : (n : ℕ) → n % 2 < 2
 odd_lt n = mod-lt n (zero-lt-suc 1)
-
-digits_assoc : (x : ℕ) → x < 2 → (y : ℕ) → y < 2 → (z : ℕ) → z < 2 → differ (bit_xor x y) z ≡ differ x (bit_xor y z)
-digits_assoc =
-    digit (λ (x : ℕ). (y : ℕ) → y < 2 → (z : ℕ) → z < 2 → differ (bit_xor x y) z ≡ differ x (bit_xor y z))
-    (digit (λ (y : ℕ). (z : ℕ) → z < 2 → differ (bit_xor 0 y) z ≡ differ 0 (bit_xor y z))
-    (digit (λ (z : ℕ). differ (bit_xor 0 0) z ≡ differ 0 (bit_xor 0 z)) refl refl)
-    (digit (λ (z : ℕ). differ (bit_xor 0 1) z ≡ differ 0 (bit_xor 1 z)) refl refl))
-    (digit (λ (y : ℕ). (z : ℕ) → z < 2 → differ (bit_xor 1 y) z ≡ differ 1 (bit_xor y z))
-    (digit (λ (z : ℕ). differ (bit_xor 1 0) z ≡ differ 1 (bit_xor 0 z)) refl refl)
-    (digit (λ (z : ℕ). differ (bit_xor 1 1) z ≡ differ 1 (bit_xor 1 z)) refl refl))
-
-pub xor_assoc : (a b c : ℕ) → bit_xor (bit_xor a b) c ≡ bit_xor a (bit_xor b c)
-xor_assoc =
-    bin_ind (λ (n : ℕ). (b c : ℕ) → bit_xor (bit_xor n b) c ≡ bit_xor n (bit_xor b c)) (λ b c. refl)
-    (λ n ih b c.
-    xor_step (bit_xor n b) c
-    ∙ ap₂ (λ (x y : ℕ). bit_xor x (c / 2) * 2 + differ y (c % 2)) (xor_shr n b 1) (xor_mod n b 1)
-    ∙ ap₂ (λ (x y : ℕ). x * 2 + y) (ih (b / 2) (c / 2)) (digits_assoc (n % 2) (odd_lt n) (b % 2) (odd_lt b) (c % 2) (odd_lt c))
-    ∙ ap₂ (λ (x y : ℕ). bit_xor (n / 2) x * 2 + differ (n % 2) y) (sym (xor_shr b c 1)) (sym (xor_mod b c 1))
-    ∙ sym (xor_step n (bit_xor b c)))
 
 pub xor_left_comm : (a b c : ℕ) → bit_xor a (bit_xor b c) ≡ bit_xor b (bit_xor a c)
 xor_left_comm a b c = sym (xor_assoc a b c) ∙ ap (λ (x : ℕ). bit_xor x c) (xor_comm a b) ∙ xor_assoc b a c

@@ -32,7 +32,7 @@ raised (suc n) a = times a (raised n a)
 unfoldable pub inverse : ℕ → ℕ
 inverse a = raised 254 a
 
--- ---- what a table holds, for the functions that are lent one
+-- ---- what a table holds
 
 -- entry k of t is c times k, for every byte k
 abbrev pub Multiples : ℕ → List ℕ → Type 0

@@ -1,7 +1,7 @@
 // The two constant tables behind products and inverses.
 
 // Entry n is 2 to the power n; entries 0 and 255 are both 1.
-pub const POWERS: [u8; 256] = [
+pub static POWERS: [u8; 256] = [
     1, 2, 4, 8, 16, 32, 64, 128, 29, 58, 116, 232, 205, 135, 19, 38, 76, 152, 45, 90, 180, 117,
     234, 201, 143, 3, 6, 12, 24, 48, 96, 192, 157, 39, 78, 156, 37, 74, 148, 53, 106, 212, 181,
     119, 238, 193, 159, 35, 70, 140, 5, 10, 20, 40, 80, 160, 93, 186, 105, 210, 185, 111, 222, 161,
@@ -18,7 +18,7 @@ pub const POWERS: [u8; 256] = [
 ];
 
 // Entry a is the n below 255 with 2 to the power n equal to a; the entry for zero is never used.
-pub const LOGARITHMS: [u8; 256] = [
+pub static LOGARITHMS: [u8; 256] = [
     0, 0, 1, 25, 2, 50, 26, 198, 3, 223, 51, 238, 27, 104, 199, 75, 4, 100, 224, 14, 52, 141, 239,
     129, 28, 193, 105, 248, 200, 8, 76, 113, 5, 138, 101, 47, 225, 36, 15, 33, 53, 147, 142, 218,
     240, 18, 130, 69, 29, 181, 194, 125, 106, 39, 249, 185, 201, 154, 9, 120, 77, 228, 114, 166, 6,

@@ -3,6 +3,7 @@
 use mathlib.Core.List.{List, [], ◌∷◌}
 use mathlib.Core.Path.{◌≡◌, refl}
 use Prim.Native.Nat.{ℕ}
+use Rattle.std.specs.Prelude.{Option, Some, None}
 use Rattle.lines.specs.Names.{same}
 use Rattle.lines.specs.Fields.{begun, fields, is_digit, all_digits, number_of, is_value, all_values}
 use Rattle.lines.specs.RequestLines.{write_of, named, request_of, request_line}
@@ -14,9 +15,9 @@ use Rattle.lines.specs.declared.measures.Measures.{Measures}
 
 -- a line, and what it should say
 pub data Example : Type 0 where
-  asks : List ℕ → Request → Example
-  measured : List ℕ → Measures → Example
-  answers : Request → (code mode listed next first : ℕ) → List ℕ → Example
+  asks : List ℕ → Option Request → Example
+  measured : List ℕ → Option Measures → Example
+  answers : Option Request → (code mode listed next first : ℕ) → List ℕ → Example
   formats : ℕ → List ℕ → Example
   keeps : List ℕ → List ℕ → Example
 
@@ -34,75 +35,75 @@ AllSay (e ∷ es) = Says e × AllSay es
 abbrev pub examples : List Example
 examples =
     -- `start 0 0 0`
-    asks (115 ∷ 116 ∷ 97 ∷ 114 ∷ 116 ∷ 32 ∷ 48 ∷ 32 ∷ 48 ∷ 32 ∷ 48 ∷ []) Request.Start ∷
+    asks (115 ∷ 116 ∷ 97 ∷ 114 ∷ 116 ∷ 32 ∷ 48 ∷ 32 ∷ 48 ∷ 32 ∷ 48 ∷ []) (Some Request.Start) ∷
     -- `write 1 1 7`
-    asks (119 ∷ 114 ∷ 105 ∷ 116 ∷ 101 ∷ 32 ∷ 49 ∷ 32 ∷ 49 ∷ 32 ∷ 55 ∷ []) (Request.Write 1 1 7) ∷
+    asks (119 ∷ 114 ∷ 105 ∷ 116 ∷ 101 ∷ 32 ∷ 49 ∷ 32 ∷ 49 ∷ 32 ∷ 55 ∷ []) (Some (Request.Write 1 1 7)) ∷
     -- `fail 0 0 0`
-    asks (102 ∷ 97 ∷ 105 ∷ 108 ∷ 32 ∷ 48 ∷ 32 ∷ 48 ∷ 32 ∷ 48 ∷ []) (Request.Fail 0) ∷
+    asks (102 ∷ 97 ∷ 105 ∷ 108 ∷ 32 ∷ 48 ∷ 32 ∷ 48 ∷ 32 ∷ 48 ∷ []) (Some (Request.Fail 0)) ∷
     -- `read 1 1 0`
-    asks (114 ∷ 101 ∷ 97 ∷ 100 ∷ 32 ∷ 49 ∷ 32 ∷ 49 ∷ 32 ∷ 48 ∷ []) (Request.Read 1 1) ∷
+    asks (114 ∷ 101 ∷ 97 ∷ 100 ∷ 32 ∷ 49 ∷ 32 ∷ 49 ∷ 32 ∷ 48 ∷ []) (Some (Request.Read 1 1)) ∷
     -- `rebuild 0 0 0`
-    asks (114 ∷ 101 ∷ 98 ∷ 117 ∷ 105 ∷ 108 ∷ 100 ∷ 32 ∷ 48 ∷ 32 ∷ 48 ∷ 32 ∷ 48 ∷ []) Request.Rebuild ∷
+    asks (114 ∷ 101 ∷ 98 ∷ 117 ∷ 105 ∷ 108 ∷ 100 ∷ 32 ∷ 48 ∷ 32 ∷ 48 ∷ 32 ∷ 48 ∷ []) (Some Request.Rebuild) ∷
     -- `resync 0 0 0`
-    asks (114 ∷ 101 ∷ 115 ∷ 121 ∷ 110 ∷ 99 ∷ 32 ∷ 48 ∷ 32 ∷ 48 ∷ 32 ∷ 48 ∷ []) Request.Resync ∷
+    asks (114 ∷ 101 ∷ 115 ∷ 121 ∷ 110 ∷ 99 ∷ 32 ∷ 48 ∷ 32 ∷ 48 ∷ 32 ∷ 48 ∷ []) (Some Request.Resync) ∷
     -- `newlog 0 0 0`
-    asks (110 ∷ 101 ∷ 119 ∷ 108 ∷ 111 ∷ 103 ∷ 32 ∷ 48 ∷ 32 ∷ 48 ∷ 32 ∷ 48 ∷ []) Request.NewLog ∷
+    asks (110 ∷ 101 ∷ 119 ∷ 108 ∷ 111 ∷ 103 ∷ 32 ∷ 48 ∷ 32 ∷ 48 ∷ 32 ∷ 48 ∷ []) (Some Request.NewLog) ∷
     -- `full 0 0 0`
-    asks (102 ∷ 117 ∷ 108 ∷ 108 ∷ 32 ∷ 48 ∷ 32 ∷ 48 ∷ 32 ∷ 48 ∷ []) Request.FullResync ∷
+    asks (102 ∷ 117 ∷ 108 ∷ 108 ∷ 32 ∷ 48 ∷ 32 ∷ 48 ∷ 32 ∷ 48 ∷ []) (Some Request.FullResync) ∷
     -- `fail 6 0 0`
-    asks (102 ∷ 97 ∷ 105 ∷ 108 ∷ 32 ∷ 54 ∷ 32 ∷ 48 ∷ 32 ∷ 48 ∷ []) (Request.Fail 6) ∷
+    asks (102 ∷ 97 ∷ 105 ∷ 108 ∷ 32 ∷ 54 ∷ 32 ∷ 48 ∷ 32 ∷ 48 ∷ []) (Some (Request.Fail 6)) ∷
     -- `write 007 1 255`
-    asks (119 ∷ 114 ∷ 105 ∷ 116 ∷ 101 ∷ 32 ∷ 48 ∷ 48 ∷ 55 ∷ 32 ∷ 49 ∷ 32 ∷ 50 ∷ 53 ∷ 53 ∷ []) (Request.Write 7 1 255) ∷
+    asks (119 ∷ 114 ∷ 105 ∷ 116 ∷ 101 ∷ 32 ∷ 48 ∷ 48 ∷ 55 ∷ 32 ∷ 49 ∷ 32 ∷ 50 ∷ 53 ∷ 53 ∷ []) (Some (Request.Write 7 1 255)) ∷
     -- `fetch 1 1 0`
-    asks (102 ∷ 101 ∷ 116 ∷ 99 ∷ 104 ∷ 32 ∷ 49 ∷ 32 ∷ 49 ∷ 32 ∷ 48 ∷ []) (Request.Fetch 1 1) ∷
+    asks (102 ∷ 101 ∷ 116 ∷ 99 ∷ 104 ∷ 32 ∷ 49 ∷ 32 ∷ 49 ∷ 32 ∷ 48 ∷ []) (Some (Request.Fetch 1 1)) ∷
     -- `read 4294967295 1 256`
-    asks (114 ∷ 101 ∷ 97 ∷ 100 ∷ 32 ∷ 52 ∷ 50 ∷ 57 ∷ 52 ∷ 57 ∷ 54 ∷ 55 ∷ 50 ∷ 57 ∷ 53 ∷ 32 ∷ 49 ∷ 32 ∷ 50 ∷ 53 ∷ 54 ∷ []) (Request.Read 4294967295 1) ∷
+    asks (114 ∷ 101 ∷ 97 ∷ 100 ∷ 32 ∷ 52 ∷ 50 ∷ 57 ∷ 52 ∷ 57 ∷ 54 ∷ 55 ∷ 50 ∷ 57 ∷ 53 ∷ 32 ∷ 49 ∷ 32 ∷ 50 ∷ 53 ∷ 54 ∷ []) (Some (Request.Read 4294967295 1)) ∷
     -- `stop 0 0 0`
-    asks (115 ∷ 116 ∷ 111 ∷ 112 ∷ 32 ∷ 48 ∷ 32 ∷ 48 ∷ 32 ∷ 48 ∷ []) Request.Unreadable ∷
+    asks (115 ∷ 116 ∷ 111 ∷ 112 ∷ 32 ∷ 48 ∷ 32 ∷ 48 ∷ 32 ∷ 48 ∷ []) None ∷
     -- `starts 0 0 0`
-    asks (115 ∷ 116 ∷ 97 ∷ 114 ∷ 116 ∷ 115 ∷ 32 ∷ 48 ∷ 32 ∷ 48 ∷ 32 ∷ 48 ∷ []) Request.Unreadable ∷
+    asks (115 ∷ 116 ∷ 97 ∷ 114 ∷ 116 ∷ 115 ∷ 32 ∷ 48 ∷ 32 ∷ 48 ∷ 32 ∷ 48 ∷ []) None ∷
     -- `start 0 0`
-    asks (115 ∷ 116 ∷ 97 ∷ 114 ∷ 116 ∷ 32 ∷ 48 ∷ 32 ∷ 48 ∷ []) Request.Unreadable ∷
+    asks (115 ∷ 116 ∷ 97 ∷ 114 ∷ 116 ∷ 32 ∷ 48 ∷ 32 ∷ 48 ∷ []) None ∷
     -- `start 0 0 0 0`
-    asks (115 ∷ 116 ∷ 97 ∷ 114 ∷ 116 ∷ 32 ∷ 48 ∷ 32 ∷ 48 ∷ 32 ∷ 48 ∷ 32 ∷ 48 ∷ []) Request.Unreadable ∷
+    asks (115 ∷ 116 ∷ 97 ∷ 114 ∷ 116 ∷ 32 ∷ 48 ∷ 32 ∷ 48 ∷ 32 ∷ 48 ∷ 32 ∷ 48 ∷ []) None ∷
     -- `start  0 0`
-    asks (115 ∷ 116 ∷ 97 ∷ 114 ∷ 116 ∷ 32 ∷ 32 ∷ 48 ∷ 32 ∷ 48 ∷ []) Request.Unreadable ∷
+    asks (115 ∷ 116 ∷ 97 ∷ 114 ∷ 116 ∷ 32 ∷ 32 ∷ 48 ∷ 32 ∷ 48 ∷ []) None ∷
     -- 'start 0 0 0 '
-    asks (115 ∷ 116 ∷ 97 ∷ 114 ∷ 116 ∷ 32 ∷ 48 ∷ 32 ∷ 48 ∷ 32 ∷ 48 ∷ 32 ∷ []) Request.Unreadable ∷
+    asks (115 ∷ 116 ∷ 97 ∷ 114 ∷ 116 ∷ 32 ∷ 48 ∷ 32 ∷ 48 ∷ 32 ∷ 48 ∷ 32 ∷ []) None ∷
     -- ''
-    asks ([]) Request.Unreadable ∷
+    asks ([]) None ∷
     -- `read 4294967296 1 0`
-    asks (114 ∷ 101 ∷ 97 ∷ 100 ∷ 32 ∷ 52 ∷ 50 ∷ 57 ∷ 52 ∷ 57 ∷ 54 ∷ 55 ∷ 50 ∷ 57 ∷ 54 ∷ 32 ∷ 49 ∷ 32 ∷ 48 ∷ []) Request.Unreadable ∷
+    asks (114 ∷ 101 ∷ 97 ∷ 100 ∷ 32 ∷ 52 ∷ 50 ∷ 57 ∷ 52 ∷ 57 ∷ 54 ∷ 55 ∷ 50 ∷ 57 ∷ 54 ∷ 32 ∷ 49 ∷ 32 ∷ 48 ∷ []) None ∷
     -- `read -1 1 0`
-    asks (114 ∷ 101 ∷ 97 ∷ 100 ∷ 32 ∷ 45 ∷ 49 ∷ 32 ∷ 49 ∷ 32 ∷ 48 ∷ []) Request.Unreadable ∷
+    asks (114 ∷ 101 ∷ 97 ∷ 100 ∷ 32 ∷ 45 ∷ 49 ∷ 32 ∷ 49 ∷ 32 ∷ 48 ∷ []) None ∷
     -- 'read 0\t1 0 0'
-    asks (114 ∷ 101 ∷ 97 ∷ 100 ∷ 32 ∷ 48 ∷ 9 ∷ 49 ∷ 32 ∷ 48 ∷ 32 ∷ 48 ∷ []) Request.Unreadable ∷
+    asks (114 ∷ 101 ∷ 97 ∷ 100 ∷ 32 ∷ 48 ∷ 9 ∷ 49 ∷ 32 ∷ 48 ∷ 32 ∷ 48 ∷ []) None ∷
     -- 'read 0 1 0\r'
-    asks (114 ∷ 101 ∷ 97 ∷ 100 ∷ 32 ∷ 48 ∷ 32 ∷ 49 ∷ 32 ∷ 48 ∷ 13 ∷ []) Request.Unreadable ∷
+    asks (114 ∷ 101 ∷ 97 ∷ 100 ∷ 32 ∷ 48 ∷ 32 ∷ 49 ∷ 32 ∷ 48 ∷ 13 ∷ []) None ∷
     -- `read 0 x 0`
-    asks (114 ∷ 101 ∷ 97 ∷ 100 ∷ 32 ∷ 48 ∷ 32 ∷ 120 ∷ 32 ∷ 48 ∷ []) Request.Unreadable ∷
+    asks (114 ∷ 101 ∷ 97 ∷ 100 ∷ 32 ∷ 48 ∷ 32 ∷ 120 ∷ 32 ∷ 48 ∷ []) None ∷
     -- `write 0 1 256`
-    asks (119 ∷ 114 ∷ 105 ∷ 116 ∷ 101 ∷ 32 ∷ 48 ∷ 32 ∷ 49 ∷ 32 ∷ 50 ∷ 53 ∷ 54 ∷ []) Request.Unreadable ∷
+    asks (119 ∷ 114 ∷ 105 ∷ 116 ∷ 101 ∷ 32 ∷ 48 ∷ 32 ∷ 49 ∷ 32 ∷ 50 ∷ 53 ∷ 54 ∷ []) None ∷
     -- `3 2 1 4 2 4`
-    measured (51 ∷ 32 ∷ 50 ∷ 32 ∷ 49 ∷ 32 ∷ 52 ∷ 32 ∷ 50 ∷ 32 ∷ 52 ∷ []) (Measures.Six 3 2 1 4 2 4) ∷
+    measured (51 ∷ 32 ∷ 50 ∷ 32 ∷ 49 ∷ 32 ∷ 52 ∷ 32 ∷ 50 ∷ 32 ∷ 52 ∷ []) (Some (record { d = 3; s = 2; b = 1; l = 4; h = 2; e = 4 })) ∷
     -- `3 2 1 4 2`
-    measured (51 ∷ 32 ∷ 50 ∷ 32 ∷ 49 ∷ 32 ∷ 52 ∷ 32 ∷ 50 ∷ []) Measures.Unreadable ∷
+    measured (51 ∷ 32 ∷ 50 ∷ 32 ∷ 49 ∷ 32 ∷ 52 ∷ 32 ∷ 50 ∷ []) None ∷
     -- `3 2 1 4 2 4 0`
-    measured (51 ∷ 32 ∷ 50 ∷ 32 ∷ 49 ∷ 32 ∷ 52 ∷ 32 ∷ 50 ∷ 32 ∷ 52 ∷ 32 ∷ 48 ∷ []) Measures.Unreadable ∷
+    measured (51 ∷ 32 ∷ 50 ∷ 32 ∷ 49 ∷ 32 ∷ 52 ∷ 32 ∷ 50 ∷ 32 ∷ 52 ∷ 32 ∷ 48 ∷ []) None ∷
     -- '3 2 1 4 2 '
-    measured (51 ∷ 32 ∷ 50 ∷ 32 ∷ 49 ∷ 32 ∷ 52 ∷ 32 ∷ 50 ∷ 32 ∷ []) Measures.Unreadable ∷
+    measured (51 ∷ 32 ∷ 50 ∷ 32 ∷ 49 ∷ 32 ∷ 52 ∷ 32 ∷ 50 ∷ 32 ∷ []) None ∷
     -- `3 2 1 4 2 4294967296`
-    measured (51 ∷ 32 ∷ 50 ∷ 32 ∷ 49 ∷ 32 ∷ 52 ∷ 32 ∷ 50 ∷ 32 ∷ 52 ∷ 50 ∷ 57 ∷ 52 ∷ 57 ∷ 54 ∷ 55 ∷ 50 ∷ 57 ∷ 54 ∷ []) Measures.Unreadable ∷
+    measured (51 ∷ 32 ∷ 50 ∷ 32 ∷ 49 ∷ 32 ∷ 52 ∷ 32 ∷ 50 ∷ 32 ∷ 52 ∷ 50 ∷ 57 ∷ 52 ∷ 57 ∷ 54 ∷ 55 ∷ 50 ∷ 57 ∷ 54 ∷ []) None ∷
     -- `read 16 1 1 2 0`
-    answers (Request.Read 1 1) 16 1 1 2 0 (114 ∷ 101 ∷ 97 ∷ 100 ∷ 32 ∷ 49 ∷ 54 ∷ 32 ∷ 49 ∷ 32 ∷ 49 ∷ 32 ∷ 50 ∷ 32 ∷ 48 ∷ 10 ∷ []) ∷
+    answers (Some (Request.Read 1 1)) 16 1 1 2 0 (114 ∷ 101 ∷ 97 ∷ 100 ∷ 32 ∷ 49 ∷ 54 ∷ 32 ∷ 49 ∷ 32 ∷ 49 ∷ 32 ∷ 50 ∷ 32 ∷ 48 ∷ 10 ∷ []) ∷
     -- `fetch 0 1 1 2 7`
-    answers (Request.Fetch 1 1) 0 1 1 2 7 (102 ∷ 101 ∷ 116 ∷ 99 ∷ 104 ∷ 32 ∷ 48 ∷ 32 ∷ 49 ∷ 32 ∷ 49 ∷ 32 ∷ 50 ∷ 32 ∷ 55 ∷ 10 ∷ []) ∷
+    answers (Some (Request.Fetch 1 1)) 0 1 1 2 7 (102 ∷ 101 ∷ 116 ∷ 99 ∷ 104 ∷ 32 ∷ 48 ∷ 32 ∷ 49 ∷ 32 ∷ 49 ∷ 32 ∷ 50 ∷ 32 ∷ 55 ∷ 10 ∷ []) ∷
     -- `resync 0 0 0 0 0`
-    answers Request.Resync 0 0 0 0 0 (114 ∷ 101 ∷ 115 ∷ 121 ∷ 110 ∷ 99 ∷ 32 ∷ 48 ∷ 32 ∷ 48 ∷ 32 ∷ 48 ∷ 32 ∷ 48 ∷ 32 ∷ 48 ∷ 10 ∷ []) ∷
+    answers (Some Request.Resync) 0 0 0 0 0 (114 ∷ 101 ∷ 115 ∷ 121 ∷ 110 ∷ 99 ∷ 32 ∷ 48 ∷ 32 ∷ 48 ∷ 32 ∷ 48 ∷ 32 ∷ 48 ∷ 32 ∷ 48 ∷ 10 ∷ []) ∷
     -- `fail 6 0 0 0 0`
-    answers (Request.Fail 6) 6 0 0 0 0 (102 ∷ 97 ∷ 105 ∷ 108 ∷ 32 ∷ 54 ∷ 32 ∷ 48 ∷ 32 ∷ 48 ∷ 32 ∷ 48 ∷ 32 ∷ 48 ∷ 10 ∷ []) ∷
+    answers (Some (Request.Fail 6)) 6 0 0 0 0 (102 ∷ 97 ∷ 105 ∷ 108 ∷ 32 ∷ 54 ∷ 32 ∷ 48 ∷ 32 ∷ 48 ∷ 32 ∷ 48 ∷ 32 ∷ 48 ∷ 10 ∷ []) ∷
     -- `bad 15 2 100 650 0`
-    answers Request.Unreadable 15 2 100 650 0 (98 ∷ 97 ∷ 100 ∷ 32 ∷ 49 ∷ 53 ∷ 32 ∷ 50 ∷ 32 ∷ 49 ∷ 48 ∷ 48 ∷ 32 ∷ 54 ∷ 53 ∷ 48 ∷ 32 ∷ 48 ∷ 10 ∷ []) ∷
+    answers None 15 2 100 650 0 (98 ∷ 97 ∷ 100 ∷ 32 ∷ 49 ∷ 53 ∷ 32 ∷ 50 ∷ 32 ∷ 49 ∷ 48 ∷ 48 ∷ 32 ∷ 54 ∷ 53 ∷ 48 ∷ 32 ∷ 48 ∷ 10 ∷ []) ∷
     -- `format 0 0 0 0 0`
     formats 0 (102 ∷ 111 ∷ 114 ∷ 109 ∷ 97 ∷ 116 ∷ 32 ∷ 48 ∷ 32 ∷ 48 ∷ 32 ∷ 48 ∷ 32 ∷ 48 ∷ 32 ∷ 48 ∷ 10 ∷ []) ∷
     -- `format 1 0 0 0 0`

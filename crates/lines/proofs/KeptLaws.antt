@@ -16,8 +16,7 @@ use Rattle.lines.specs.Fields.{begun, fields, nth, is_digit, all_digits, number_
 use Rattle.lines.specs.RequestLines.{named, request_of, request_line}
 use Rattle.lines.specs.MeasureLines.{measures_of, measures_line}
 use Rattle.lines.specs.Held.{on_digit, drops, kept_from, kept, last_zero, room}
-use Rattle.lines.specs.declared.requests.Request.TheVariants as Request
-use Rattle.lines.specs.declared.measures.Measures.TheVariants as Measures
+use Rattle.std.specs.Prelude.{None}
 use Rattle.lines.proofs.TestLaws.{and_left, and_right, and_false, either_way}
 use Rattle.lines.proofs.NameLaws.{same-lengths}
 use Rattle.lines.proofs.FieldLaws.{grown, begun_grown, fields_full, digit_range}
@@ -250,7 +249,7 @@ same_digit (x ∷ f) [] d n = refl
 same_digit (x ∷ f) (y ∷ w) d n = simp (ne_eqb x y (λ e. false≢true (sym n ∙ ap is_digit (sym e) ∙ d)))
 
 -- what is none of the nine names can't be read
-named_none : (f : List ℕ) (a b c : ℕ) → ((w : List ℕ) → on_digit w ≡ false → length w ≤ 7 → same f w ≡ false) → named f a b c ≡ Request.Unreadable
+named_none : (f : List ℕ) (a b c : ℕ) → ((w : List ℕ) → on_digit w ≡ false → length w ≤ 7 → same f w ≡ false) → named f a b c ≡ None
 unfolding named on_digit is_digit
 named_none f a b c none =
     simp (
@@ -266,10 +265,10 @@ named_none f a b c none =
     )
 
 -- as what begins with a digit, and what has more than seven bytes
-named_digit : (f : List ℕ) (a b c : ℕ) → on_digit f ≡ true → named f a b c ≡ Request.Unreadable
+named_digit : (f : List ℕ) (a b c : ℕ) → on_digit f ≡ true → named f a b c ≡ None
 named_digit f a b c d = named_none f a b c (λ w n l. same_digit f w d n)
 
-named-long : (f : List ℕ) (a b c : ℕ) → 7 < length f → named f a b c ≡ Request.Unreadable
+named-long : (f : List ℕ) (a b c : ℕ) → 7 < length f → named f a b c ≡ None
 named-long f a b c h = named_none f a b c (λ w n l. same-lengths f w (λ e. omega arith))
 
 trim_named : (f : List ℕ) (a b c : ℕ) → named (trimmed f) a b c ≡ named f a b c
@@ -362,7 +361,7 @@ values_taken (f ∷ fs) v =
     let short : length (trimmed f) ≤ 10 = trim_short f (and_left (all_digits f) _ digits) (ltb-true (number_of f) limit (and_right (all_digits f) _ digits)) in
     omega arith
 
-fields-measures : (fs : List (List ℕ)) → 129 < taken (map trimmed fs) → measures_of fs ≡ Measures.Unreadable
+fields-measures : (fs : List (List ℕ)) → 129 < taken (map trimmed fs) → measures_of fs ≡ None
 unfolding measures_of
 fields-measures fs h =
     ⊎_elim
@@ -373,7 +372,7 @@ fields-measures fs h =
     (λ (e : (eqb (length fs) 6 && all_values fs) ≡ false). simp e)
     (either_way (eqb (length fs) 6 && all_values fs))
 
-fields_request : (fs : List (List ℕ)) → 129 < taken (map trimmed fs) → request_of fs ≡ Request.Unreadable
+fields_request : (fs : List (List ℕ)) → 129 < taken (map trimmed fs) → request_of fs ≡ None
 unfolding request_of taken
 fields_request [] h = absurd (omega arith)
 fields_request (f ∷ fs) h =
@@ -389,10 +388,10 @@ kept_taken : (t : List ℕ) → room < length (kept t) → 129 < taken (map trim
 kept_taken t h = rw (← (kept_trimmed t)) (omega (arith, fields_taken (kept t)))
 
 -- a text of which more is kept than fits can't be read
-pub long_request : (t : List ℕ) → room < length (kept t) → request_line t ≡ Request.Unreadable
+pub long_request : (t : List ℕ) → room < length (kept t) → request_line t ≡ None
 unfolding request_line
 long_request t h = fields_request (fields t) (kept_taken t h)
 
-pub long-measures : (t : List ℕ) → room < length (kept t) → measures_line t ≡ Measures.Unreadable
+pub long-measures : (t : List ℕ) → room < length (kept t) → measures_line t ≡ None
 unfolding measures_line
 long-measures t h = fields-measures (fields t) (kept_taken t h)

@@ -1,221 +1,192 @@
 -- Laws of lines: what is found by going through a line field by field is what the line says.
 -- Assumes nothing.
-use mathlib.Core.Bool.{true, false, ◌&&◌}
-use mathlib.Core.List.{List, [], ◌∷◌}
+use mathlib.Core.Bool.{Bool, true, false, cond, ◌&&◌, false≢true}
+use mathlib.Core.List.{List, [], ◌∷◌, ◌++◌, map, append_assoc, append-nil}
 use mathlib.Core.Logic.{⊎_elim}
 use mathlib.Core.Path.{◌≡◌, refl, sym, ap, ◌∙◌, subst}
-use Prim.Native.Nat.{ℕ, zero, suc, ◌+◌, ◌-◌, ◌≤◌, ◌<◌}
-use native.Mathlib.Nat.{sub-zero}
-use native.Mathlib.Decide.{dec_lt}
+use Prim.Native.Nat.{ℕ, suc, ◌+◌, ◌-◌, ◌≤◌, ◌<◌}
 use native.Mathlib.Omega.{arith}
-use lib.Dec.{eqb, ltb}
-use lib.ListN.{length, take, drop}
-use borrow.Author.Tests.{lt-ltb, le-ltb, eq-eqb, eqb-true, ltb-true}
-use Rattle.lines.specs.Fields.{fields, nth, all_digits, number_of, limit, is_value, all_values}
+use lib.Dec.{eqb, eqb-suc-suc}
+use lib.ListN.{length, take, drop, get_or, length-drop, get_or-map}
+use lib.Seq.{take_all}
+use denote.Ref.{Bor}
+use denote.Param.Members.{Mut}
+use Rattle.std.specs.Prelude.{Option, Some, None, MatchBool, is_some}
+use Rattle.std.specs.Fn.{ComputesKey, CalledAt}
+use Rattle.std.specs.List.{All, position, position_or_len, slice_split, IsFirstMatchOrLen}
+use Rattle.std.specs.Slice.Iter.{split_steps, split_rest, split_done, split_callee}
+use Rattle.std.specs.declared.slice.Split.{Split}
+use Rattle.std.proofs.lemmas.List.Quantifiers.{position-Some}
+use Rattle.std.proofs.lemmas.List.Sums.{fails_before_first}
+use Rattle.std.proofs.lemmas.List.Splits.{slice_split_none, slice_split_at, slice_split_first}
+use Rattle.std.proofs.lemmas.Fn.{always_returns_same}
+use Rattle.std.proofs.lemmas.Grind.{common_steps}
+use Rattle.lines.specs.Fields.{fields, nth, number_of, is_value, all_values}
 use Rattle.lines.specs.RequestLines.{named, request_of}
 use Rattle.lines.specs.MeasureLines.{measures_of}
-use Rattle.lines.specs.Walking.{value_of, fields_from, fields_after, Ends, Cuts}
-use Rattle.lines.specs.declared.fields.Field.{Field}
-use Rattle.lines.specs.declared.requests.Request.{Request}
-use Rattle.lines.specs.declared.measures.Measures.{Measures}
-use Rattle.lines.proofs.TestLaws.{either_way, and_left, and_right}
-use Rattle.lines.proofs.FieldLaws.{grown, fields_full, value_empty}
+use Rattle.lines.specs.Walking.{value_of, values_of}
+use Rattle.lines.proofs.TestLaws.{either_way, and_false}
+use Rattle.lines.proofs.FieldLaws.{fields_split}
 
--- ---- one field
+-- ---- fields that are split off one after another
 
--- the field that begins at an index, with its value
-pub cuts_from : (line : List ℕ) (from : ℕ) (f : Field) → Ends line from f.end → f.value ≡ value_of (take (f.end - from) (drop from line))
-    → Cuts line (fields_from line from) f
-cuts_from line from f e v = record {
-  value = v ∙ ap (λ (fs : List (List ℕ)). value_of (nth fs 0)) (sym e.cut);
-  others = ap (λ (fs : List (List ℕ)). drop 1 fs) (sym e.cut);
-  most = e.most;
-}
+abbrev pub is_blank : ℕ → Bool
+is_blank x = eqb x 32
 
--- the field after a blank
-pub cuts_after : (line : List ℕ) (end : ℕ) (f : Field) → end < length line → Cuts line (fields_from line (end + 1)) f → Cuts line (fields_after line end) f
-unfolding fields_after
-cuts_after line end f h c = simp (lt-ltb end (length line) h) c
+-- the fields that a split has left: those of the rest, or none once it is done
+abbrev pub left : Bool → List ℕ → List (List ℕ)
+left done rest = cond done [] (slice_split is_blank rest)
 
-none_after : (line : List ℕ) (end : ℕ) → length line ≤ end → fields_after line end ≡ []
-unfolding fields_after
-none_after line end h = simp (le-ltb end (length line) h)
+left_part : (xs x rest : List ℕ) (done : Bool) → MatchBool done (xs ≡ x) ((y : ℕ) × (xs ≡ x ++ (y ∷ rest))) → IsFirstMatchOrLen is_blank xs (length x)
+    → slice_split is_blank xs ≡ x ∷ left done rest
+left_part xs x rest true e h =
+    ap (slice_split is_blank) e ∙ slice_split_none is_blank x (λ k d l. subst (λ ys. is_blank (get_or ys k d) ≡ false) e (h.0 k d (omega arith) l))
+left_part xs x rest false e h =
+    let front : All (λ z. is_blank z ≡ false) x = λ k d l. let a = h.0 k d (omega arith) l in let b = e.1 in grind (arith, common_steps) in
+    let hit : is_blank e.0 ≡ true = let b = e.1 in let a = h.1 (grind (arith, common_steps)) e.0 in grind (arith, common_steps) in
+    ap (slice_split is_blank) e.1 ∙ slice_split_at is_blank x e.0 rest front hit
 
--- no field is left
-pub cuts_none : (line : List ℕ) (end : ℕ) → length line ≤ end → end ≤ length line → Cuts line (fields_after line end) (record { value = limit; end = end })
-cuts_none line end h m = record {
-  value = sym (ap (λ (fs : List (List ℕ)). value_of (nth fs 0)) (none_after line end h) ∙ value_empty [] refl);
-  others = none_after line end h ∙ ap (λ (fs : List (List ℕ)). drop 1 fs) (sym (none_after line end h));
-  most = m;
-}
+module _ {F : Type 0} (g : Mut F (Bor ℕ × Unit {0}) Bool) (s t : Split ℕ F) where
+  -- a call of next that gives none: none was left
+  pub none_left : {r : Option (Bor (List ℕ))} → r ≡ None → split_steps g s r t → left (split_done s) (split_rest s) ≡ []
+  none_left e p =
+      let n : split_steps g s None t = subst (λ (o : Option (Bor (List ℕ))). split_steps g s o t) e p in
+      simp n.0
 
--- the field that begins a line
-pub cut_first : (line : List ℕ) (end : ℕ) → Ends line 0 end → fields line ≡ take end line ∷ fields_after line end
-cut_first line end e = rw sub-zero at e.cut
+  -- a call of next that gives a field: it is the first of those that were left
+  pub one_left : {r : Option (Bor (List ℕ))} (x : Bor (List ℕ)) → ((y : ℕ) (b : Bool) (q : F) → CalledAt g (split_callee s) y b q → (q ≡ split_callee s) × (b ≡ is_blank y))
+      → r ≡ Some x → split_steps g s r t → left (split_done s) (split_rest s) ≡ x.now ∷ left (split_done t) (split_rest t)
+  one_left x tests e p =
+      let k : ComputesKey g is_blank (split_callee s) =
+      always_returns_same g (λ a r. r ≡ is_blank a.0.now) (split_callee s)
+      (λ a r q k. let m = tests a.0.now r q (record { shown = a.0; shows = refl; called = k }) in (m.1, m.0)) in
+      let n : split_steps g s (Some x) t = subst (λ (o : Option (Bor (List ℕ))). split_steps g s o t) e p in
+      simp n.0 (left_part _ x.now _ (split_done t) n.1 (n.2 is_blank k).1)
 
--- ---- fields one after another
+-- what a test whether an option is some tells
+pub some_is : {A : Type 0} (o : Option A) → is_some o ≡ true → (x : A) × (o ≡ Some x)
+some_is None e = absurd (false≢true e)
+some_is (Some x) e = (x, refl)
 
--- the first n of some fields are values
-unfoldable pub Values : ℕ → List (List ℕ) → Type 0
-Values zero fs = Unit {0}
-Values (suc n) fs = (value_of (nth fs 0) < limit) × Values n (drop 1 fs)
+pub none_is : {A : Type 0} (o : Option A) → is_some o ≡ false → o ≡ None
+none_is None e = refl
+none_is (Some x) e = absurd (false≢true (sym e))
 
--- what is left of some fields after the first n
-unfoldable pub after : ℕ → List (List ℕ) → List (List ℕ)
-after zero fs = fs
-after (suc n) fs = after n (drop 1 fs)
+-- ---- values, one after another
 
-value-is : (f : List ℕ) → value_of f < limit → is_value f ≡ true
-unfolding value_of
-value-is f h =
-    ⊎_elim (λ (t : is_value f ≡ true). t) (λ (t : is_value f ≡ false). absurd (let e : value_of f ≡ limit = simp t in omega arith))
+-- the numbers that are read, and those of n fields more that are values
+unfoldable pub more : List ℕ → ℕ → List (List ℕ) → Option (List ℕ)
+more vs n fs = cond (eqb (length fs) n && all_values fs) (Some (vs ++ map number_of fs)) None
+
+pub more_start : (n : ℕ) (fs : List (List ℕ)) → more [] n fs ≡ values_of n fs
+unfolding more values_of
+more_start n fs = refl
+
+-- none is left, though one is wanted
+pub more_none : (vs : List ℕ) (n : ℕ) → 0 < n → more vs n [] ≡ None
+unfolding more
+more_none vs n h = grind (arith, common_steps)
+
+-- a field that is no value
+pub more_off : (vs : List ℕ) (n : ℕ) (f : List ℕ) (fs : List (List ℕ)) → value_of f ≡ None → more vs n (f ∷ fs) ≡ None
+unfolding more value_of all_values
+more_off vs n f fs h =
+    ⊎_elim
+    (λ (e : is_value f ≡ true). absurd (let n : Some (number_of f) ≡ None = simp e at h in cc))
+    (λ (e : is_value f ≡ false). simp (e, and_false))
     (either_way (is_value f))
 
-is-value : (f : List ℕ) → is_value f ≡ true → value_of f < limit
-unfolding value_of is_value
-is-value f t = simp t (ltb-true (number_of f) limit (and_right (all_digits f) (ltb (number_of f) limit) (and_right (ltb 0 (length f)) _ t)))
-
-value_number : (f : List ℕ) → value_of f < limit → number_of f ≡ value_of f
+value_some : (f : List ℕ) (v : ℕ) → value_of f ≡ Some v → (is_value f ≡ true) × (number_of f ≡ v)
 unfolding value_of
-value_number f h = sym (simp (value-is f h))
+value_some f v h =
+    ⊎_elim
+    (λ (e : is_value f ≡ true). (e, let n : Some (number_of f) ≡ Some v = simp e at h in cc))
+    (λ (e : is_value f ≡ false). absurd (let n : None ≡ Some v = simp e at h in cc))
+    (either_way (is_value f))
 
-nth_on : (fs : List (List ℕ)) (k : ℕ) → nth fs (suc k) ≡ nth (drop 1 fs) k
-nth_on [] k = refl
-nth_on (f ∷ fs) k = refl
+-- a field that is one
+pub more_on : (vs : List ℕ) (n : ℕ) (f : List ℕ) (fs : List (List ℕ)) (v : ℕ) → 0 < n → value_of f ≡ Some v → more vs n (f ∷ fs) ≡ more (vs ++ (v ∷ [])) (n - 1) fs
+unfolding more all_values
+more_on vs n f fs v h e =
+    let s : n ≡ suc (n - 1) = omega arith in
+    let d : (is_value f ≡ true) × (number_of f ≡ v) = value_some f v e in
+    ap (λ (k : ℕ). more vs k (f ∷ fs)) s ∙ simp (d.0, d.1, append_assoc, eqb-suc-suc (length fs) (n - 1))
 
--- n values and nothing after them are exactly n values
-exactly : (n : ℕ) (fs : List (List ℕ)) → Values n fs → after n fs ≡ [] → (length fs ≡ n) × (all_values fs ≡ true)
-unfolding Values after all_values
-exactly zero fs v a = (ap (λ (gs : List (List ℕ)). length gs) a, ap all_values a)
-exactly (suc n) [] v a = absurd (let e : value_of [] ≡ limit = value_empty [] refl in omega (arith, v.0))
-exactly (suc n) (f ∷ fs) v a =
-    let r : (length fs ≡ n) × (all_values fs ≡ true) = exactly n fs v.1 a in
-    (ap suc r.0, simp (value-is f v.0, r.1))
+-- a field too many
+pub more_long : (vs : List ℕ) (f : List ℕ) (fs : List (List ℕ)) → more vs 0 (f ∷ fs) ≡ None
+unfolding more
+more_long vs f fs = grind (arith, common_steps)
 
-values_of : (n : ℕ) (fs : List (List ℕ)) → length fs ≡ n → all_values fs ≡ true → Values n fs × (after n fs ≡ [])
-unfolding Values after all_values
-values_of zero [] l t = (tt, refl)
-values_of zero (f ∷ fs) l t = absurd (omega arith)
-values_of (suc n) [] l t = absurd (omega arith)
-values_of (suc n) (f ∷ fs) l t =
-    let r : Values n fs × (after n fs ≡ []) = values_of n fs (omega arith) (and_right (is_value f) (all_values fs) t) in
-    ((is-value f (and_left (is_value f) (all_values fs) t), r.0), r.1)
-
--- the number of field k, out of n values
-number_at : (n k : ℕ) (fs : List (List ℕ)) → Values n fs → k < n → number_of (nth fs k) ≡ value_of (nth (after k fs) 0)
-unfolding Values after
-number_at zero k fs v h = absurd (omega arith)
-number_at (suc n) zero fs v h = value_number (nth fs 0) v.0
-number_at (suc n) (suc k) fs v h = ap number_of (nth_on fs k) ∙ number_at n k (drop 1 fs) v.1 (omega arith)
-
--- three fields, one after another
-pub record Three (line : List ℕ) (fs : List (List ℕ)) (a b c : Field) : Type 0 where
-  pub first : a.value ≡ value_of (nth fs 0)
-  pub second : b.value ≡ value_of (nth (after 1 fs) 0)
-  pub third : c.value ≡ value_of (nth (after 2 fs) 0)
-  pub rest : fields_after line c.end ≡ after 3 fs
-  pub most : c.end ≤ length line
-
-pub three : {line : List ℕ} {fs : List (List ℕ)} {a b c : Field} → Cuts line fs a → Cuts line (fields_after line a.end) b
-    → Cuts line (fields_after line b.end) c → Three line fs a b c
-unfolding after
-three {line} {fs} {a} {b} {c} ca cb cc =
-    let kb : Cuts line (drop 1 fs) b = subst (λ (gs : List (List ℕ)). Cuts line gs b) ca.others cb in
-    let kc : Cuts line (drop 1 (drop 1 fs)) c = subst (λ (gs : List (List ℕ)). Cuts line gs c) kb.others cc in
-    record { first = ca.value; second = kb.value; third = kc.value; rest = kc.others; most = kc.most }
+-- all are read
+pub more_end : (vs : List ℕ) → more vs 0 [] ≡ Some vs
+unfolding more all_values
+more_end vs = ap Some (append-nil vs)
 
 -- ---- whole lines
 
--- no field comes after the line's end, and some after any other
-ended : (line : List ℕ) (end : ℕ) (fs : List (List ℕ)) → fields_after line end ≡ fs → end ≡ length line → fs ≡ []
-ended line end fs r e = sym r ∙ none_after line end (omega arith)
+-- fields that are not n values, and those that are
+values_none : (n : ℕ) (fs : List (List ℕ)) → values_of n fs ≡ None → (eqb (length fs) n && all_values fs) ≡ false
+unfolding values_of
+values_none n fs h =
+    ⊎_elim
+    (λ (e : (eqb (length fs) n && all_values fs) ≡ true). absurd (let n : Some (map number_of fs) ≡ None = simp e at h in cc))
+    (λ (e : (eqb (length fs) n && all_values fs) ≡ false). e)
+    (either_way (eqb (length fs) n && all_values fs))
 
-end_of : (line : List ℕ) (end : ℕ) (fs : List (List ℕ)) → fields_after line end ≡ fs → end ≤ length line → fs ≡ [] → end ≡ length line
-unfolding fields_after grown
-end_of line end fs r m e =
-    elim (dec_lt end (length line)) [
-      | yes l ↦ absurd (
-          let t : fields (drop (end + 1) line) ≡ [] = simp (lt-ltb end (length line) l) at (r ∙ e) in
-          let n : suc (length (drop 1 (fields (drop (end + 1) line)))) ≡ 0 = ap (λ (gs : List (List ℕ)). length gs) (fields_full (drop (end + 1) line) ∙ t) in
-          omega arith)
-      | no q ↦ omega arith
-    ]
+values_some : (n : ℕ) (fs : List (List ℕ)) (vs : List ℕ) → values_of n fs ≡ Some vs → ((eqb (length fs) n && all_values fs) ≡ true) × (map number_of fs ≡ vs)
+unfolding values_of
+values_some n fs vs h =
+    ⊎_elim
+    (λ (e : (eqb (length fs) n && all_values fs) ≡ true). (e, let n : Some (map number_of fs) ≡ Some vs = simp e at h in cc))
+    (λ (e : (eqb (length fs) n && all_values fs) ≡ false). absurd (let n : None ≡ Some vs = simp e at h in cc))
+    (either_way (eqb (length fs) n && all_values fs))
 
-module _ (line : List ℕ) (fs : List (List ℕ)) (d s b l h e : Field) (x : Three line fs d s b) (y : Three line (fields_after line b.end) l h e) where
-  later : (k : ℕ) → after k (fields_after line b.end) ≡ after k (after 3 fs)
-  later k = ap (after k) x.rest
+-- the number of field k
+number_at : (fs : List (List ℕ)) (vs : List ℕ) → map number_of fs ≡ vs → (k : ℕ) → number_of (nth fs k) ≡ get_or vs k 0
+unfolding number_of
+number_at fs vs e k = sym (get_or-map number_of fs k []) ∙ ap (λ (ns : List ℕ). get_or ns k 0) e
 
-  left_over : fields_after line e.end ≡ after 6 fs
-  unfolding after
-  left_over = y.rest ∙ later 3
+pub measures_none : (fs : List (List ℕ)) → values_of 6 fs ≡ None → measures_of fs ≡ None
+unfolding measures_of
+measures_none fs h = simp (values_none 6 fs h)
 
-  last_three : (f : Field) (k : ℕ) → f.value ≡ value_of (nth (after k (fields_after line b.end)) 0) → f.value ≡ value_of (nth (after k (after 3 fs)) 0)
-  last_three f k v = v ∙ ap (λ (gs : List (List ℕ)). value_of (nth gs 0)) (later k)
+pub measures_some : (fs : List (List ℕ)) (vs : List ℕ) → values_of 6 fs ≡ Some vs
+    → measures_of fs ≡ Some (record { d = get_or vs 0 0; s = get_or vs 1 0; b = get_or vs 2 0; l = get_or vs 3 0; h = get_or vs 4 0; e = get_or vs 5 0 })
+unfolding measures_of
+measures_some fs vs h =
+    let v : ((eqb (length fs) 6 && all_values fs) ≡ true) × (map number_of fs ≡ vs) = values_some 6 fs vs h in
+    let n : (k : ℕ) → number_of (nth fs k) ≡ get_or vs k 0 = number_at fs vs v.1 in
+    simp (v.0, n 0, n 1, n 2, n 3, n 4, n 5)
 
-  six_values : ((d.value < limit) × ((s.value < limit) × (b.value < limit))) → ((l.value < limit) × ((h.value < limit) × (e.value < limit)))
-      → Values 6 fs
-  unfolding Values after
-  six_values p q =
-      let fl : l.value ≡ value_of (nth (after 3 fs) 0) = last_three l 0 y.first in
-      let fh : h.value ≡ value_of (nth (after 4 fs) 0) = last_three h 1 y.second in
-      let fe : e.value ≡ value_of (nth (after 5 fs) 0) = last_three e 2 y.third in
-      (rw x.first at p.0, (rw x.second at p.1.0, (rw x.third at p.1.1, (rw fl at q.0, (rw fh at q.1.0, (rw fe at q.1.1, tt))))))
+-- a name and fields that are not three values, or that are
+pub request_none : (f : List ℕ) (fs : List (List ℕ)) → values_of 3 fs ≡ None → request_of (f ∷ fs) ≡ None
+unfolding request_of
+request_none f fs h = simp (eqb-suc-suc (length fs) 3, values_none 3 fs h)
 
-  -- six values and the line's end: the measures
-  pub measures_read : ((d.value < limit) × ((s.value < limit) × (b.value < limit))) → ((l.value < limit) × ((h.value < limit) × (e.value < limit)))
-      → e.end ≡ length line
-      → measures_of fs ≡ Measures.Six d.value s.value b.value l.value h.value e.value
-  unfolding measures_of after
-  measures_read p q m =
-      let v : Values 6 fs = six_values p q in
-      let r : (length fs ≡ 6) × (all_values fs ≡ true) = exactly 6 fs v (ended line e.end (after 6 fs) left_over m) in
-      let n0 : number_of (nth fs 0) ≡ d.value = number_at 6 0 fs v (omega arith) ∙ sym x.first in
-      let n1 : number_of (nth fs 1) ≡ s.value = number_at 6 1 fs v (omega arith) ∙ sym x.second in
-      let n2 : number_of (nth fs 2) ≡ b.value = number_at 6 2 fs v (omega arith) ∙ sym x.third in
-      let n3 : number_of (nth fs 3) ≡ l.value = number_at 6 3 fs v (omega arith) ∙ sym (last_three l 0 y.first) in
-      let n4 : number_of (nth fs 4) ≡ h.value = number_at 6 4 fs v (omega arith) ∙ sym (last_three h 1 y.second) in
-      let n5 : number_of (nth fs 5) ≡ e.value = number_at 6 5 fs v (omega arith) ∙ sym (last_three e 2 y.third) in
-      simp (eq-eqb (length fs) 6 r.0, r.1, n0, n1, n2, n3, n4, n5)
+pub request_some : (f : List ℕ) (fs : List (List ℕ)) (vs : List ℕ) → values_of 3 fs ≡ Some vs
+    → request_of (f ∷ fs) ≡ named f (get_or vs 0 0) (get_or vs 1 0) (get_or vs 2 0)
+unfolding request_of
+request_some f fs vs h =
+    let v : ((eqb (length fs) 3 && all_values fs) ≡ true) × (map number_of fs ≡ vs) = values_some 3 fs vs h in
+    let n : (k : ℕ) → number_of (nth fs k) ≡ get_or vs k 0 = number_at fs vs v.1 in
+    simp (eqb-suc-suc (length fs) 3, v.0, n 0, n 1, n 2)
 
-  -- where one of them is none, or something is left: no measures
-  pub measures-not : (((d.value < limit) × ((s.value < limit) × (b.value < limit))) → ((l.value < limit) × ((h.value < limit) × (e.value < limit)))
-      → e.end ≡ length line → ⊥) → measures_of fs ≡ Measures.Unreadable
-  unfolding measures_of Values after
-  measures-not never =
-      ⊎_elim
-      (λ (t : (eqb (length fs) 6 && all_values fs) ≡ true).
-      let r : Values 6 fs × (after 6 fs ≡ []) = values_of 6 fs (eqb-true (length fs) 6 (and_left _ _ t)) (and_right (eqb (length fs) 6) _ t) in
-      let v = r.0 in
-      absurd (never
-      (rw (sym x.first) at v.0, (rw (sym x.second) at v.1.0, rw (sym x.third) at v.1.1.0))
-      (rw (sym (last_three l 0 y.first)) at v.1.1.1.0, (rw (sym (last_three h 1 y.second)) at v.1.1.1.1.0, rw (sym (last_three e 2 y.third)) at v.1.1.1.1.1.0))
-      (end_of line e.end (after 6 fs) left_over y.most r.1)))
-      (λ (t : (eqb (length fs) 6 && all_values fs) ≡ false). simp t)
-      (either_way (eqb (length fs) 6 && all_values fs))
+pub request_alone : (f : List ℕ) → request_of (f ∷ []) ≡ None
+unfolding request_of
+request_alone f = grind (arith, common_steps)
 
-module _ (line name : List ℕ) (fs : List (List ℕ)) (a b c : Field) (x : Three line fs a b c) where
-  -- a name, three values and the line's end: what the line asks for
-  pub request_read : a.value < limit → b.value < limit → c.value < limit → c.end ≡ length line
-      → request_of (name ∷ fs) ≡ named name a.value b.value c.value
-  unfolding request_of Values after
-  request_read p q r m =
-      let v : Values 3 fs = (rw x.first at p, (rw x.second at q, (rw x.third at r, tt))) in
-      let k : (length fs ≡ 3) × (all_values fs ≡ true) = exactly 3 fs v (ended line c.end (after 3 fs) x.rest m) in
-      let n0 : number_of (nth fs 0) ≡ a.value = number_at 3 0 fs v (omega arith) ∙ sym x.first in
-      let n1 : number_of (nth fs 1) ≡ b.value = number_at 3 1 fs v (omega arith) ∙ sym x.second in
-      let n2 : number_of (nth fs 2) ≡ c.value = number_at 3 2 fs v (omega arith) ∙ sym x.third in
-      simp (eq-eqb (suc (length fs)) 4 (ap suc k.0), k.1, n0, n1, n2)
+-- a text that is cut at its first blank, and one that has none
+pub fields_at : (line : List ℕ) (i : ℕ) → position is_blank line ≡ Some i
+    → fields line ≡ take i line ∷ fields (take (length line - (i + 1)) (drop (i + 1) line))
+fields_at line i e =
+    let at : position_or_len is_blank line ≡ i = grind (arith, common_steps) in
+    let within : i < length line = (position-Some is_blank line i 0 e).0 in
+    let rest : take (length line - (i + 1)) (drop (i + 1) line) ≡ drop (i + 1) line = take_all _ (drop (i + 1) line) (simp length-drop (omega arith)) in
+    fields_split line ∙ slice_split_first is_blank line 0 (omega arith)
+    ∙ ap (λ (k : ℕ). take k line ∷ slice_split is_blank (drop (k + 1) line)) at
+    ∙ ap (λ (fs : List (List ℕ)). take i line ∷ fs) (sym (ap fields rest ∙ fields_split (drop (i + 1) line)))
 
-  -- where one of them is none, or something is left: nothing that can be read
-  pub request_not : (a.value < limit → b.value < limit → c.value < limit → c.end ≡ length line → ⊥) → request_of (name ∷ fs) ≡ Request.Unreadable
-  unfolding request_of Values after
-  request_not never =
-      ⊎_elim
-      (λ (t : (eqb (suc (length fs)) 4 && all_values fs) ≡ true).
-      let l : suc (length fs) ≡ 4 = eqb-true (suc (length fs)) 4 (and_left _ _ t) in
-      let r : Values 3 fs × (after 3 fs ≡ []) = values_of 3 fs (omega arith) (and_right (eqb (suc (length fs)) 4) _ t) in
-      let v = r.0 in
-      absurd (never (rw (sym x.first) at v.0) (rw (sym x.second) at v.1.0) (rw (sym x.third) at v.1.1.0)
-      (end_of line c.end (after 3 fs) x.rest x.most r.1)))
-      (λ (t : (eqb (suc (length fs)) 4 && all_values fs) ≡ false). simp t)
-      (either_way (eqb (suc (length fs)) 4 && all_values fs))
+pub fields_alone : (line : List ℕ) → position is_blank line ≡ None → fields line ≡ line ∷ []
+fields_alone line e =
+    let none : length line ≤ position_or_len is_blank line = grind (arith, common_steps) in
+    fields_split line ∙ slice_split_none is_blank line (λ k d l. fails_before_first is_blank line k d (omega arith))

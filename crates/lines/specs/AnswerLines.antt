@@ -1,9 +1,9 @@
 -- The lines that are written of answers: a name, and numbers in decimal.
 -- Assumes nothing.
-use Rattle.std.specs.Prelude.{true, false, List, [], ◌∷◌, ◌++◌, ℕ, zero, suc, ◌+◌, ◌/◌, ◌%◌, ltb}
+use Rattle.std.specs.Prelude.{true, false, List, [], ◌∷◌, ◌++◌, ℕ, Option, Some, None, zero, suc, ◌+◌, ◌/◌, ◌%◌, ltb}
 use Rattle.lines.specs.Names.{start_name, write_name, read_name, fetch_name, fail_name, resync_name, rebuild_name, new_log_name, full_name, bad_name, format_name}
 use Rattle.lines.specs.declared.requests.Request.{Request}
-use Rattle.lines.specs.declared.requests.Request.TheVariants.{Start, Write, Read, Fetch, Fail, Resync, Rebuild, NewLog, FullResync, Unreadable}
+use Rattle.lines.specs.declared.requests.Request.TheVariants.{Start, Write, Read, Fetch, Fail, Resync, Rebuild, NewLog, FullResync}
 use Rattle.lines.specs.declared.answers.Answer.{Answer}
 
 -- the decimal digits of n, where k digits more than one are enough
@@ -21,24 +21,24 @@ spelled [] = 10 ∷ []
 spelled (n ∷ ns) = 32 ∷ (decimal n ++ spelled ns)
 
 -- the name of what was asked for; `bad` of a line that can't be read
-unfoldable pub name_of : Request → List ℕ
-name_of Start = start_name
-name_of (Write a n v) = write_name
-name_of (Read a n) = read_name
-name_of (Fetch a n) = fetch_name
-name_of (Fail j) = fail_name
-name_of Resync = resync_name
-name_of Rebuild = rebuild_name
-name_of NewLog = new_log_name
-name_of FullResync = full_name
-name_of Unreadable = bad_name
+unfoldable pub name_of : Option Request → List ℕ
+name_of (Some Start) = start_name
+name_of (Some (Write a n v)) = write_name
+name_of (Some (Read a n)) = read_name
+name_of (Some (Fetch a n)) = fetch_name
+name_of (Some (Fail j)) = fail_name
+name_of (Some Resync) = resync_name
+name_of (Some Rebuild) = rebuild_name
+name_of (Some NewLog) = new_log_name
+name_of (Some FullResync) = full_name
+name_of None = bad_name
 
 -- an answer's numbers in the order of the columns: code, mode, listed, next, first
 unfoldable pub columns : Answer → List ℕ
 columns a = a.code ∷ a.mode ∷ a.listed ∷ a.next ∷ a.first ∷ []
 
 -- the line of an answer to a request, and of format's
-unfoldable pub answer_line : Request → Answer → List ℕ
+unfoldable pub answer_line : Option Request → Answer → List ℕ
 answer_line r a = name_of r ++ spelled (columns a)
 
 unfoldable pub format_line : ℕ → List ℕ

@@ -1,6 +1,6 @@
 -- What is kept of a line that comes byte by byte, in a buffer of fixed length.
 -- Assumes nothing.
-use Rattle.std.specs.Prelude.{Bool, true, false, cond, ◌&&◌, List, [], ◌∷◌, ◌++◌, ◌≡◌, ℕ, ◌+◌, ◌≤◌, ◌<◌, eqb, leb, length, take}
+use Rattle.std.specs.Prelude.{Bool, true, false, ◌&&◌, List, [], ◌∷◌, ◌++◌, ◌≡◌, ℕ, Option, Some, None, ◌≤◌, ◌<◌, eqb, length}
 use Rattle.lines.specs.Fields.{is_digit}
 
 -- whether a text begins with a digit
@@ -32,15 +32,16 @@ last_zero start (x ∷ y ∷ t) = last_zero (eqb x 32) (y ∷ t)
 abbrev pub room : ℕ
 room = 128
 
--- a buffer keeps a text in n bytes: its first n are what is kept of the text; or n is one more than it has, and what is kept does not fit
-pub data Keeps (line : List ℕ) (n : ℕ) (t : List ℕ) : Type 0 where
-  fits : n ≤ room → n ≡ length (kept t) → take n line ≡ kept t → Keeps line n t
-  over : n ≡ room + 1 → room < length (kept t) → Keeps line n t
+-- what a buffer holds of a text: what is kept of it; or nothing, where that does not fit
+pub data Keeps (held : Option (List ℕ)) (t : List ℕ) : Type 0 where
+  fits : length (kept t) ≤ room → held ≡ Some (kept t) → Keeps held t
+  over : room < length (kept t) → held ≡ None → Keeps held t
 
--- a buffer takes the byte x: where it kept a text in n bytes before, it keeps the text with x behind it in r bytes after
-abbrev pub Extends : List ℕ → ℕ → ℕ → List ℕ → ℕ → Type 0
-Extends before n x after r = (t : List ℕ) → Keeps before n t → Keeps after r (t ++ (x ∷ []))
+-- a buffer takes the byte x: where it kept a text before, it keeps the text with x behind it after
+abbrev pub Extends : Option (List ℕ) → ℕ → Option (List ℕ) → Type 0
+Extends before x after = (t : List ℕ) → Keeps before t → Keeps after (t ++ (x ∷ []))
 
--- how many of n bytes are handed on as a line: all of them, or none where they do not fit
-unfoldable pub fitting : ℕ → ℕ
-fitting n = cond (leb n room) n 0
+-- what is handed on as a line: all that is held, or nothing where it does not fit
+unfoldable pub fitting : Option (List ℕ) → List ℕ
+fitting (Some k) = k
+fitting None = []

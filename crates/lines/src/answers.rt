@@ -1,9 +1,9 @@
 // Lines that are written: a name, then numbers in decimal, split by single blanks, and a newline.
-ghost use Rattle.std.specs.Prelude.{◌∷◌, ◌≡◌, ◌+◌, ◌*◌, ◌≤◌, length, take};
+ghost use Rattle.std.specs.Prelude.{◌∷◌, ◌≡◌, ◌+◌, ◌*◌, ◌≤◌, length};
 ghost use Rattle.lines.specs.AnswerLines.{decimal, spelled, name_of, answer_line, format_line, columns_line};
 ghost use Rattle.lines.specs.Walking.{Puts};
 
-use super::requests;
+use super::requests::Request;
 
 // What a line tells after a call: its number, then the shelf's mode, how many blocks are listed and its next free log record, and the
 // first byte read.
@@ -16,22 +16,12 @@ pub struct Answer {
     pub first: usize,
 }
 
-// A name: the first len of its bytes.
-#[derive(Drop)]
-struct Name {
-    len: usize,
-    bytes: [u8; 7],
-}
-
 // Puts the line of an answer to a request at the start of out, and answers how long it is.
-pub fn put_answer(out: &mut [u8], request: requests::Request, a: Answer) -> usize
+pub fn put_answer(out: &mut [u8], request: Option<Request>, a: Answer) -> usize
     requires { 128 ≤ length out.old }
     ensures { Puts out.old 0 (answer_line request a) out.new result }
 {
-    let name = name_of(request);
-    let n = name.len;
-    let bytes = name.bytes;
-    let at = put_word(out, &bytes[..n]);
+    let at = put_word(out, name_of(request));
     let columns = [a.code, a.mode, a.listed, a.next, a.first];
     put_numbers(out, at, &columns)
 }
@@ -54,31 +44,24 @@ pub fn put_columns(out: &mut [u8]) -> usize
     put_word(out, b"call code mode listed next first\n")
 }
 
-// The name of a request; `bad` of a line that can't be read.
-fn name_of(request: requests::Request) -> Name
-    ensures bytes_value { take result.len result.bytes ≡ name_of request }
-    ensures len_in_bounds { result.len ≤ length result.bytes }
-    ensures len_bound { result.len ≤ 7 }
+// The name of a request; `bad` where a line can't be read.
+#[tactic(auto, unfolding(crate::specs::AnswerLines::name_of))]
+fn name_of(request: Option<Request>) -> &'static [u8]
+    ensures value { result.now ≡ name_of request }
+    ensures len_bound { length result.now ≤ 7 }
 {
     match request {
-        requests::Request::Start => name_from(5, *b"start\0\0"),
-        requests::Request::Write(_, _, _) => name_from(5, *b"write\0\0"),
-        requests::Request::Read(_, _) => name_from(4, *b"read\0\0\0"),
-        requests::Request::Fetch(_, _) => name_from(5, *b"fetch\0\0"),
-        requests::Request::Fail(_) => name_from(4, *b"fail\0\0\0"),
-        requests::Request::Resync => name_from(6, *b"resync\0"),
-        requests::Request::Rebuild => name_from(7, *b"rebuild"),
-        requests::Request::NewLog => name_from(6, *b"newlog\0"),
-        requests::Request::FullResync => name_from(4, *b"full\0\0\0"),
-        requests::Request::Unreadable => name_from(3, *b"bad\0\0\0\0"),
+        Some(Request::Start) => b"start",
+        Some(Request::Write(..)) => b"write",
+        Some(Request::Read(..)) => b"read",
+        Some(Request::Fetch(..)) => b"fetch",
+        Some(Request::Fail(_)) => b"fail",
+        Some(Request::Resync) => b"resync",
+        Some(Request::Rebuild) => b"rebuild",
+        Some(Request::NewLog) => b"newlog",
+        Some(Request::FullResync) => b"full",
+        None => b"bad",
     }
-}
-
-// The name that the first len of these bytes are.
-fn name_from(len: usize, bytes: [u8; 7]) -> Name
-    ensures { result ≡ record { len = len; bytes = bytes } }
-{
-    Name { len, bytes }
 }
 
 // Puts a word at the start of out, and answers where it ends.
@@ -86,12 +69,9 @@ fn put_word(out: &mut [u8], word: &[u8]) -> usize
     requires { length word.now ≤ length out.old }
     ensures { Puts out.old 0 word.now out.new result }
 {
-    let mut i: usize = 0;
-    while i < word.len() {
-        out[i] = word[i];
-        i += 1;
-    }
-    i
+    let n = word.len();
+    out[..n].copy_from_slice(word);
+    n
 }
 
 // Puts numbers, a blank before each, and a newline into out from an index on, and answers where they end.
@@ -100,13 +80,10 @@ fn put_numbers(out: &mut [u8], from: usize, numbers: &[usize]) -> usize
     ensures { Puts out.old from (spelled numbers.now) out.new result }
 {
     let mut at = from;
-    let mut i: usize = 0;
-    while i < numbers.len() {
-        let n = numbers[i];
-        at = put_number(out, at, n);
-        i += 1;
+    for n in numbers {
+        at = put_number(out, at, *n);
     }
-    out[at] = 10;
+    out[at] = b'\n';
     at + 1
 }
 
@@ -115,16 +92,16 @@ fn put_number(out: &mut [u8], at: usize, n: usize) -> usize
     requires { at + 21 ≤ length out.old }
     ensures { Puts out.old at (32 ∷ decimal n) out.new result }
 {
-    out[at] = 32;
+    out[at] = b' ';
     put_decimal(out, at + 1, n)
 }
 
-// Puts a number in decimal into out from an index on, and answers where it ends.
+// Puts a number in decimal into out from an index on, and answers where it ends. Of the text that Display writes a proof learns nothing.
 fn put_decimal(out: &mut [u8], at: usize, n: usize) -> usize
     requires { at + length (decimal n) ≤ length out.old }
     ensures { Puts out.old at (decimal n) out.new result }
 {
-    let last = 48 + (n % 10) as u8;
+    let last = b'0' + (n % 10) as u8;
     if n < 10 {
         out[at] = last;
         return at + 1;

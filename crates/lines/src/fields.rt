@@ -1,85 +1,60 @@
-// A line gone through field by field: where each field ends, and its value.
-ghost use Rattle.std.specs.Prelude.{◌≡◌, ◌≤◌, length};
-ghost use Rattle.lines.specs.Fields.{is_digit};
-ghost use Rattle.lines.specs.Walking.{value_of, Ends, Cuts, fields_from, fields_after};
+// The values of a text: its fields, split by single blanks, each as a number.
+ghost use Rattle.std.specs.Prelude.{◌≡◌, eqb, length, MatchOption};
+ghost use Rattle.std.specs.List.{position};
+ghost use Rattle.lines.specs.Fields.{fields};
+ghost use Rattle.lines.specs.Walking.{value_of, values_of};
 
-// 2 to the 32nd, which stands for the value of a field that is none.
-pub const LIMIT: usize = 4294967296;
+// 2 to the 32nd, above every value.
+const LIMIT: usize = 4294967296;
 
-// A field: its value, or LIMIT where it is none, and the index at which it ends.
-#[derive(Drop)]
-pub struct Field {
-    pub value: usize,
-    pub end: usize,
-}
-
-// The end of the field that begins at an index: that of the next blank, or the line's.
-pub fn field_end(line: &[u8], from: usize) -> usize
-    requires { from ≤ length line.now }
-    ensures { Ends line.now from result }
+// The index of a text's first blank, where its first field ends.
+pub fn first_blank(text: &[u8]) -> Option<usize>
+    ensures { result ≡ position (λ x. eqb x 32) text.now }
 {
-    let mut i = from;
-    while i < line.len() {
-        if line[i] == 32 {
-            return i;
-        }
-        i += 1;
-    }
-    i
+    text.iter().position(|x| *x == b' ')
 }
 
-// The field that begins at an index.
-pub fn field_from(line: &[u8], from: usize) -> Field
-    requires { from ≤ length line.now }
-    ensures { Cuts line.now (fields_from line.now from) result }
+// The values that a text's fields are, where it has N fields and each is a value.
+pub fn read_values<const N: usize>(text: &[u8]) -> Option<[usize; N]>
+    ensures { result ≡ values_of N (fields text.now) }
 {
-    let end = field_end(line, from);
-    Field {
-        value: value_of(&line[from..end]),
-        end,
-    }
+    let mut values = [0; N];
+    read_into(text, &mut values)?;
+    Some(values)
 }
 
-// The field after one that ends at an index. Where none is left, it is no value and ends there too.
-pub fn next_field(line: &[u8], end: usize) -> Field
-    requires { end ≤ length line.now }
-    ensures { Cuts line.now (fields_after line.now end) result }
+// Puts a text's fields into values, where it has as many and each is a value.
+// It fills a slice: a loop over a split gets no proof in a function with a const parameter.
+fn read_into(text: &[u8], values: &mut [usize]) -> Option<()>
+    ensures { MatchOption result (values_of (length values.old) (fields text.now) ≡ None)
+        (λ _. values_of (length values.old) (fields text.now) ≡ Some values.new) }
 {
-    if end < line.len() {
-        return field_from(line, end + 1);
+    let mut fields = text.split(|x| *x == b' ');
+    for value in values.iter_mut() {
+        *value = value_of(fields.next()?)?;
     }
-    Field { value: LIMIT, end }
+    if fields.next().is_some() {
+        return None;
+    }
+    Some(())
 }
 
-// The value of a field: a decimal number below 2 to the 32nd; or LIMIT where it is none.
-fn value_of(field: &[u8]) -> usize
+// The value of a field: a decimal number below 2 to the 32nd. A sign, which `parse` takes, is none of it.
+fn value_of(field: &[u8]) -> Option<usize>
     ensures { result ≡ value_of field.now }
 {
-    if field.len() == 0 {
-        return LIMIT;
+    if field.is_empty() {
+        return None;
     }
-    let mut value: usize = 0;
-    let mut i: usize = 0;
-    while i < field.len() {
-        let x = field[i];
-        if !is_digit(x) {
-            return LIMIT;
+    let mut value = 0;
+    for x in field {
+        if !x.is_ascii_digit() {
+            return None;
         }
-        value = value * 10 + (x - 48) as usize;
+        value = value * 10 + (*x - b'0') as usize;
         if value >= LIMIT {
-            return LIMIT;
+            return None;
         }
-        i += 1;
     }
-    value
-}
-
-// Whether a byte is one of the digits 0 to 9.
-pub fn is_digit(x: u8) -> bool
-    ensures { result ≡ is_digit x }
-{
-    if x < 48 {
-        return false;
-    }
-    x <= 57
+    Some(value)
 }

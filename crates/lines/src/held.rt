@@ -1,67 +1,78 @@
 // A line that comes byte by byte, kept in 128 bytes however long it is: a zero at the start of a field makes way for a digit that follows
-// it there. A line that takes more can't be read, whatever follows.
-ghost use Rattle.std.specs.Prelude.{true, ◌&&◌, ◌≡◌, ◌≤◌, length, take};
-ghost use Rattle.lines.specs.Fields.{is_digit};
+// it there. A line that takes more can't be read, whatever follows. The bytes are in the line itself: nothing is on a heap.
+ghost use Rattle.std.specs.Prelude.{true, ◌≡◌, ◌≤◌, ◌↔◌, [], List, ℕ, Option, Some, IsTrue, take, length, option_map};
 ghost use Rattle.lines.specs.Held.{last_zero, Extends, fitting};
 
-use super::fields;
+use std::marker::Model;
 
-// Puts the next byte of a line after the n bytes that are kept of it, and answers how many are kept now: 129 where they do not fit.
-pub fn put_byte(line: &mut [u8], n: usize, x: u8) -> usize
-    requires line_len { length line.old ≡ 128 }
-    requires n_bound { n ≤ 129 }
-    ensures upper_bound { result ≤ 129 }
-    ensures extends { Extends line.old n x line.new result }
-{
-    if n > 128 {
-        return n;
-    }
-    if takes_place(line, n, x) {
-        line[n - 1] = x;
-        return n;
-    }
-    if n == 128 {
-        return 129;
-    }
-    line[n] = x;
-    n + 1
+// What is kept of a line as far as it has come, the first len bytes; or nothing, where it takes more than 128.
+#[derive(Drop)]
+pub struct HeldLine {
+    bytes: [u8; 128],
+    len: Option<usize>,
 }
 
-// How many bytes of the buffer are handed on as the line: those that are kept, or none where they do not fit.
-pub fn fitting(n: usize) -> usize
-    ensures value { result ≡ fitting n }
-    ensures upper_bound { result ≤ 128 }
-{
-    if n <= 128 {
-        return n;
-    }
-    0
+impl Model for HeldLine {
+    ghost Value = { Option (List ℕ) };
+
+    ghost view = { λ h. option_map (λ n. take n h.bytes) h.len };
+
+    ghost invariant = { λ h. (n : ℕ) → h.len ≡ Some n → n ≤ 128 };
 }
 
-// Whether a byte takes the place of the last of the n bytes that are kept: it is a digit, and their last field is one zero.
-fn takes_place(line: &[u8], n: usize, x: u8) -> bool
-    requires { n ≤ length line.now }
-    ensures { result ≡ is_digit x && last_zero true (take n line.now) }
-{
-    if fields::is_digit(x) {
-        return last_zero(line, n);
+impl HeldLine {
+    // A line of which no byte has come.
+    pub fn new() -> HeldLine
+        ensures { result ≡ Some [] }
+    {
+        HeldLine {
+            bytes: [0; 128],
+            len: Some(0),
+        }
     }
-    false
+
+    // Forgets the line: the next byte begins another.
+    pub fn clear(&mut self)
+        ensures { self.new ≡ Some [] }
+    {
+        self.len = Some(0);
+    }
+
+    // Whether no byte of the line has come.
+    pub fn is_empty(&self) -> bool
+        ensures { IsTrue result ↔ (self.now ≡ Some []) }
+    {
+        self.len == Some(0)
+    }
+
+    // The bytes that are handed on as the line: those that are kept, or none where they do not fit.
+    pub fn line(&self) -> &[u8]
+        ensures value { result.now ≡ fitting self.now }
+        ensures len_bound { length result.now ≤ 128 }
+    {
+        &self.bytes[..self.len.unwrap_or(0)]
+    }
+
+    // Takes the next byte of the line.
+    pub fn push(&mut self, x: u8)
+        ensures { Extends self.old x self.new }
+    {
+        let Some(n) = self.len else { return };
+        if x.is_ascii_digit() && ends_in_lone_zero(&self.bytes[..n]) {
+            self.bytes[n - 1] = x;
+        } else if n < 128 {
+            self.bytes[n] = x;
+            self.len = Some(n + 1);
+        } else {
+            self.len = None;
+        }
+    }
 }
 
-// Whether the last field of the n bytes that are kept is one zero.
-fn last_zero(line: &[u8], n: usize) -> bool
-    requires { n ≤ length line.now }
-    ensures { result ≡ last_zero true (take n line.now) }
+// Whether the last field of a text is one zero.
+#[tactic(auto, using(crate::proofs::HeldLaws::last_none, crate::proofs::HeldLaws::last_lone, crate::proofs::HeldLaws::last_both))]
+fn ends_in_lone_zero(text: &[u8]) -> bool
+    ensures { result ≡ last_zero true text.now }
 {
-    if n == 0 {
-        return false;
-    }
-    if line[n - 1] != 48 {
-        return false;
-    }
-    if n == 1 {
-        return true;
-    }
-    line[n - 2] == 32
+    matches!(text, [b'0'] | [.., b' ', b'0'])
 }

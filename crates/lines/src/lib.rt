@@ -8,5 +8,4 @@ pub mod answers;
 mod fields;
 pub mod held;
 pub mod measures;
-mod names;
 pub mod requests;

@@ -1,12 +1,13 @@
 // Lines that ask for a call: a name and three values, split by single blanks.
 ghost use Rattle.std.specs.Prelude.{◌≡◌};
+ghost use Rattle.lines.specs.Names.{same};
 ghost use Rattle.lines.specs.RequestLines.{named, write_of, request_line};
 
-use super::{fields, names};
+use super::fields;
 
 // What a line asks for: a call with its values. Write has an address, a count and a fill byte, read and fetch an address and a
-// count, fail a member. A line that can't be read asks for none.
-#[derive(Clone, Copy)]
+// count, fail a member.
+#[derive(Clone, Copy, PartialEq, Eq, Debug)]
 pub enum Request {
     Start,
     Write(usize, usize, u8),
@@ -17,72 +18,56 @@ pub enum Request {
     Rebuild,
     NewLog,
     FullResync,
-    Unreadable,
 }
 
-// What a line asks for.
-pub fn read_request(line: &[u8]) -> Request
+// What a line asks for, if it can be read.
+pub fn read_request(line: &[u8]) -> Option<Request>
     ensures { result ≡ request_line line.now }
 {
-    let name = fields::field_end(line, 0);
-    let a = fields::next_field(line, name);
-    let b = fields::next_field(line, a.end);
-    let c = fields::next_field(line, b.end);
-    if c.end != line.len() {
-        return Request::Unreadable;
-    }
-    if a.value >= fields::LIMIT {
-        return Request::Unreadable;
-    }
-    if b.value >= fields::LIMIT {
-        return Request::Unreadable;
-    }
-    if c.value >= fields::LIMIT {
-        return Request::Unreadable;
-    }
-    named(&line[..name], a.value, b.value, c.value)
+    let end = fields::first_blank(line)?;
+    let [a, b, c]: [usize; 3] = fields::read_values(&line[end + 1..])?;
+    named(&line[..end], a, b, c)
 }
 
 // What a name with three values asks for.
-fn named(name: &[u8], a: usize, b: usize, c: usize) -> Request
+// The names are compared one after another, as the definition `named` has them.
+#[tactic(auto, unfolding(crate::specs::RequestLines::named))]
+fn named(name: &[u8], a: usize, b: usize, c: usize) -> Option<Request>
     ensures { result ≡ named name.now a b c }
 {
-    if names::is_name(name, b"start") {
-        return Request::Start;
+    let is = |word: &[u8]| -> bool
+        ensures { result ≡ same name.entry.now word.now }
+    { name == word };
+    if is(b"start") {
+        Some(Request::Start)
+    } else if is(b"write") {
+        write_of(a, b, c)
+    } else if is(b"read") {
+        Some(Request::Read(a, b))
+    } else if is(b"fetch") {
+        Some(Request::Fetch(a, b))
+    } else if is(b"fail") {
+        Some(Request::Fail(a))
+    } else if is(b"resync") {
+        Some(Request::Resync)
+    } else if is(b"rebuild") {
+        Some(Request::Rebuild)
+    } else if is(b"newlog") {
+        Some(Request::NewLog)
+    } else if is(b"full") {
+        Some(Request::FullResync)
+    } else {
+        None
     }
-    if names::is_name(name, b"write") {
-        return write_of(a, b, c);
-    }
-    if names::is_name(name, b"read") {
-        return Request::Read(a, b);
-    }
-    if names::is_name(name, b"fetch") {
-        return Request::Fetch(a, b);
-    }
-    if names::is_name(name, b"fail") {
-        return Request::Fail(a);
-    }
-    if names::is_name(name, b"resync") {
-        return Request::Resync;
-    }
-    if names::is_name(name, b"rebuild") {
-        return Request::Rebuild;
-    }
-    if names::is_name(name, b"newlog") {
-        return Request::NewLog;
-    }
-    if names::is_name(name, b"full") {
-        return Request::FullResync;
-    }
-    Request::Unreadable
 }
 
-// A write of b blocks from address a on with fill byte c, or Unreadable where c is no byte.
-fn write_of(a: usize, b: usize, c: usize) -> Request
+// A write of b blocks from address a on with fill byte c, where c is a byte.
+fn write_of(a: usize, b: usize, c: usize) -> Option<Request>
     ensures { result ≡ write_of a b c }
 {
     if c <= 255 {
-        return Request::Write(a, b, c as u8);
+        Some(Request::Write(a, b, c as u8))
+    } else {
+        None
     }
-    Request::Unreadable
 }

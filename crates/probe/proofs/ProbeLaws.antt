@@ -48,19 +48,19 @@ module _ (d k s b n : ℕ) where
       sym (row_pass (bad_shape d k s b) 1 (pick (not (eqb n ((d + k) * s * b))) 2 0) e ∙ row_pass (not (eqb n ((d + k) * s * b))) 2 0 (ap not (eq-eqb n ((d + k) * s * b) f)))
 
   -- what making parity asks for
-  pub all-measures : (code : ℕ) → code ≡ all_code d k s b n → code ≡ 0 → (2 ≤ d) × ((d ≤ 16) × ((1 ≤ k) × ((k ≤ 2) × ((s ≤ 65536) × ((1 ≤ b) × ((b ≤ 4096) × (n ≡ (d + k) * s * b)))))))
+  pub all-measures : 0 ≡ all_code d k s b n → (2 ≤ d) × ((d ≤ 16) × ((1 ≤ k) × ((k ≤ 2) × ((s ≤ 65536) × ((1 ≤ b) × ((b ≤ 4096) × (n ≡ (d + k) * s * b)))))))
   unfolding all_code
-  all-measures code e z =
-      let one = row_zero (bad_shape d k s b) 0 (pick (not (eqb n ((d + k) * s * b))) 2 0) (sym e ∙ z) in
+  all-measures e =
+      let one = row_zero (bad_shape d k s b) 0 (pick (not (eqb n ((d + k) * s * b))) 2 0) (sym e) in
       let two = row_zero (not (eqb n ((d + k) * s * b))) 1 0 one.1 in
       let shape = shape_ok d k s b one.0 in
       let ok = measures_ok d k b shape.0 in
       (ok.0, (ok.1.0, (ok.1.1.0, (ok.1.1.1.0, (shape.1.1, (ok.1.1.1.1.0, (ok.1.1.1.1.1, eqb-true n ((d + k) * s * b) (not-false (eqb n ((d + k) * s * b)) two.0))))))))
 
-pub all_done : (d k s b code : ℕ) (l n : List ℕ) → code ≡ all_code d k s b (length l) → code ≡ 0 → n ≡ parity_made_all s (place 0 d k s) d k b l → n ≡ all_buffer d k s b l
+pub all_done : (d k s b : ℕ) (l n : List ℕ) → 0 ≡ all_code d k s b (length l) → n ≡ parity_made_all s (place 0 d k s) d k b l → n ≡ all_buffer d k s b l
 unfolding all_buffer
-all_done d k s b code l n e z en = en ∙ sym (accepted_done (all_code d k s b (length l)) (parity_made_all s (place 0 d k s) d k b l) l (sym e ∙ z))
+all_done d k s b l n e en = en ∙ sym (accepted_done (all_code d k s b (length l)) (parity_made_all s (place 0 d k s) d k b l) l (sym e))
 
-pub all-kept : (d k s b code : ℕ) (l : List ℕ) → code ≡ all_code d k s b (length l) → (code ≡ 0 → ⊥) → l ≡ all_buffer d k s b l
+pub all-kept : (d k s b code : ℕ) (l : List ℕ) → (code ≡ 0 → ⊥) → code ≡ all_code d k s b (length l) → l ≡ all_buffer d k s b l
 unfolding all_buffer
-all-kept d k s b code l e ne = sym (accepted_kept (all_code d k s b (length l)) (parity_made_all s (place 0 d k s) d k b l) l (λ z. ne (e ∙ z)))
+all-kept d k s b code l ne e = sym (accepted_kept (all_code d k s b (length l)) (parity_made_all s (place 0 d k s) d k b l) l (λ z. ne (e ∙ z)))

@@ -4,7 +4,11 @@
 
 ghost use Rattle.std.specs.Prelude.{◌≡◌, ◌%◌, length};
 ghost use Rattle.field.specs.Field.{times};
+ghost use Rattle.stripe.specs.below.Refusals.{answer_of};
 ghost use Rattle.probe.specs.Probe.{all_code, all_buffer, bad_shape};
+
+use stripe::Refusal;
+use stripe::places::Layout;
 
 // The product of the low bytes of a and b.
 #[unsafe(no_mangle)]
@@ -28,42 +32,34 @@ pub extern "C" fn probe_make_parity_all(
     ensures value { result ≡ all_code d parities s b (length array.old) }
     ensures array_after { array.new ≡ all_buffer d parities s b array.old }
 {
-    let code = all_code(d, parities, s, b, array.len());
-    if code == 0 {
-        stripe::parity::make_all_parity(
-            array,
-            0,
-            d as usize,
-            parities as usize,
-            s as usize,
-            b as usize,
-        );
+    let checked = check_all(d, parities, s, b, array.len());
+    if checked.is_ok() {
+        let fixed = Layout {
+            number: 0,
+            d,
+            parities,
+        };
+        stripe::parity::make_all_parity(array, fixed, s as usize, b as usize);
     }
-    code
+    stripe::answer(checked)
 }
 
-// What probe_make_parity_all answers for an array of n bytes.
-fn all_code(d: u32, parities: u32, s: u32, b: u32, n: usize) -> u32
-    ensures { result ≡ all_code d parities s b n }
+// Whether the parities of an array of n bytes can be made.
+fn check_all(d: u32, parities: u32, s: u32, b: u32, n: usize) -> Result<(), Refusal>
+    ensures { answer_of result ≡ all_code d parities s b n }
 {
     if bad_shape(d, parities, s, b) {
-        return 1;
+        return Err(Refusal::Measures);
     }
     if n != (d as usize + parities as usize) * s as usize * b as usize {
-        return 2;
+        return Err(Refusal::Length);
     }
-    0
+    Ok(())
 }
 
 // Whether a measure is out of its range.
 fn bad_shape(d: u32, parities: u32, s: u32, b: u32) -> bool
     ensures { result ≡ bad_shape d parities s b }
 {
-    if stripe::bad_measures(d, parities, b) {
-        return true;
-    }
-    if s < 1 {
-        return true;
-    }
-    65536 < s
+    stripe::bad_measures(d, parities, b) || !(1..=65536).contains(&s)
 }

@@ -3,7 +3,7 @@
 -- stripe it tells and the buffers that read and fetch fill stand in `Lent.antt`.
 -- Assumes nothing.
 use Rattle.std.specs.Prelude.{Bool, true, false, not, ◌&&◌, List, ℕ, zero, suc, ◌+◌, ◌-◌, eqb, ltb, leb}
-use Rattle.std.proofs.Math.Option.{Option, none, some}
+use Rattle.std.specs.Prelude.{Option, None as none, Some as some}
 use Rattle.stripe.specs.Blocks.{block}
 use Rattle.shelf.specs.Counting.{choose, count, any, set_at}
 use Rattle.shelf.specs.Members.{array_members, log_member, parity_role, member_at, address_of, block_parity, worked_back}

@@ -2,7 +2,7 @@
 -- record and of the lent buffers are read as such a state (`Lent.antt`).
 -- Assumes nothing.
 use Rattle.std.specs.Prelude.{Bool, true, false, ◌||◌, List, ℕ}
-use Rattle.std.proofs.Math.Option.{Option, none, some}
+use Rattle.std.specs.Prelude.{Option, None as none, Some as some}
 use Rattle.shelf.specs.Counting.{count, total, any, first}
 use Rattle.shelf.specs.Members.{blank}
 use Rattle.shelf.specs.declared.record.Geometry.{Geometry}

@@ -1,9 +1,12 @@
 pub mod Tables
 pub mod Lists
 pub mod Records
+pub mod Entries
 pub mod Checking
 pub mod Rewriting
 pub mod Rebuilding
 pub mod Reading
+pub mod Viewing
 pub mod Showing
 pub mod Writing
+pub mod Refusals

@@ -1,46 +1,27 @@
 // A rebuild: every data block on a failed member is filled with what a fetch gives, stripe after stripe, and parity is made afresh in the
 // stripes that had a parity on a failed member.
 ghost use Rattle.std.specs.Prelude.{true, ◌≡◌, ◌<◌};
-ghost use Rattle.stripe.specs.below.Steps.{Products};
+ghost use Rattle.stripe.specs.Blocks.{block};
 ghost use Rattle.shelf.specs.below.Lists.{Measures, Lists};
 ghost use Rattle.shelf.specs.below.Records.{Sized, failed_role};
 ghost use Rattle.shelf.specs.Words.{words};
 ghost use Rattle.shelf.specs.Lent.{lent};
 ghost use Rattle.shelf.specs.below.Rewriting.{Rewritten};
-ghost use Rattle.shelf.specs.below.Reading.{Working, WorkingAt, lost_block};
-ghost use Rattle.shelf.specs.below.Rebuilding.{Rebuildable, Lost, FilledBelow, still_missing, filled_at, filled_to, stripe_rebuilt, rebuilt_to, rebuilt_record, kept_entries};
+ghost use Rattle.shelf.specs.below.Reading.{lost_block};
+ghost use Rattle.shelf.specs.below.Viewing.{seen};
+ghost use Rattle.shelf.specs.below.Rebuilding.{Rebuildable, Lost, FilledBelow, filled_at, filled_to, stripe_rebuilt, rebuilt_to, rebuilt_record, kept_entries};
 
-use super::{alter, fetch, record, sources, words};
+use super::{alter, fetch, record, sources};
 
-// Rebuilds every stripe of the array. One working block and one table of products serve them all.
+// Rebuilds every stripe of the array, in rising order. One working block and one table of products serve them all.
+#[tactic(auto, using(crate::proofs::calls::RefillLaws::rebuilt_start, crate::proofs::calls::RefillLaws::rebuilt_more))]
 pub fn rebuild_array(shelf: record::Shelf, array: &mut [u8], log: &[u8], list: &[u8])
     requires { Rebuildable (lent shelf array.old log.now list.now) }
     ensures { array.new ≡ rebuilt_to (lent shelf array.old log.now list.now) shelf.geometry.s }
 {
-    let g = shelf.geometry;
-    let mut work = [0u8; 4096];
-    let mut products = [0u8; 258];
-    rebuild_stripes(shelf, array, log, list, &mut work[..g.b], &mut products);
-}
-
-// Rebuilds every stripe of the array, in rising order.
-fn rebuild_stripes(
-    shelf: record::Shelf,
-    array: &mut [u8],
-    log: &[u8],
-    list: &[u8],
-    work: &mut [u8],
-    products: &mut [u8],
-)
-    requires rebuildable { Rebuildable (lent shelf array.old log.now list.now) }
-    requires working { Working (lent shelf array.old log.now list.now) work.old products.old }
-    ensures { array.new ≡ rebuilt_to (lent shelf array.old log.now list.now) shelf.geometry.s }
-{
-    let s = shelf.geometry.s;
-    let mut x: usize = 0;
-    while x < s {
-        rebuild_stripe(shelf, x, array, log, list, work, products);
-        x += 1;
+    let mut scratch = fetch::Scratch::new();
+    for x in 0..shelf.geometry.s {
+        rebuild_stripe(shelf, x, array, log, list, &mut scratch);
     }
 }
 
@@ -51,115 +32,74 @@ fn rebuild_stripe(
     array: &mut [u8],
     log: &[u8],
     list: &[u8],
-    work: &mut [u8],
-    products: &mut [u8],
+    scratch: &mut fetch::Scratch,
 )
     requires rebuildable { Rebuildable (lent shelf array.old log.now list.now) }
-    requires working { Working (lent shelf array.old log.now list.now) work.old products.old }
     requires x_lt_s { x < shelf.geometry.s }
-    ensures array_after { array.new ≡ stripe_rebuilt (lent shelf array.old log.now list.now) x }
-    ensures products { Products products.new }
+    ensures { array.new ≡ stripe_rebuilt (lent shelf array.old log.now list.now) x }
 {
     let g = shelf.geometry;
-    fill_stripe(shelf, x, array, log, list, work, products);
-    if shelf.parity_failed(x) {
-        stripe::parity::make_parity(array, g.layout, g.d, g.parities, g.s, x, g.b);
-    }
-}
-
-// Fills the data blocks of stripe x that are on failed members, in rising data index.
-fn fill_stripe(
-    shelf: record::Shelf,
-    x: usize,
-    array: &mut [u8],
-    log: &[u8],
-    list: &[u8],
-    work: &mut [u8],
-    products: &mut [u8],
-)
-    requires rebuildable { Rebuildable (lent shelf array.old log.now list.now) }
-    requires working { Working (lent shelf array.old log.now list.now) work.old products.old }
-    requires x_lt_s { x < shelf.geometry.s }
-    ensures array_after { array.new ≡ filled_to (lent shelf array.old log.now list.now) x shelf.geometry.d }
-    ensures products { Products products.new }
-{
-    let d = shelf.geometry.d;
     let lost = shelf.failed_roles(x);
     let from = sources::sources_of(shelf, list, x, lost);
-    let mut i: usize = 0;
-    while i < d {
-        if lost[i] {
-            fill_block(shelf, x, i, from, array, log, list, work, products);
-        }
-        i += 1;
+    let view = fetch::View {
+        shelf,
+        log,
+        list,
+        x,
+        lost,
+        from: &from,
+    };
+    fill_stripe(&view, array, scratch);
+    if shelf.parity_failed(x) {
+        stripe::parity::make_parity(array, g.roles(), g.s, x, g.b);
     }
 }
 
-// Fills the block with data index i of stripe x, which is on a failed member, from the log or by parity. Those below it are filled.
-fn fill_block(
-    shelf: record::Shelf,
-    x: usize,
-    i: usize,
-    from: sources::Sources,
-    array: &mut [u8],
-    log: &[u8],
-    list: &[u8],
-    work: &mut [u8],
-    products: &mut [u8],
-)
-    requires rebuildable { Rebuildable (lent shelf array.old log.now list.now) }
-    requires working_at { WorkingAt (lent shelf array.old log.now list.now) x i from work.old products.old }
-    requires filled_below { FilledBelow (lent shelf array.old log.now list.now) x i }
-    requires i_value { failed_role shelf x i ≡ true }
-    ensures array_after { array.new ≡ filled_at (lent shelf array.old log.now list.now) x i }
-    ensures products { Products products.new }
+// Fills the data blocks of the stripe that are on failed members, in rising data index.
+#[tactic(auto, using(crate::proofs::calls::ViewLaws::fills))]
+fn fill_stripe(view: &fetch::View, array: &mut [u8], scratch: &mut fetch::Scratch)
+    requires { Rebuildable (seen view.now array.old) }
+    ensures { array.new ≡ filled_to (seen view.now array.old) view.now.x view.now.shelf.geometry.d }
 {
-    let g = shelf.geometry;
-    let k = stripe::places::block_number(g.layout, g.d, g.parities, g.s, x, i);
-    let latest = from.latest;
-    let r = latest[i];
-    if r != words::NONE {
-        stripe::blocks::copy_block(log, r, array, k, g.b);
+    for i in 0..view.shelf.geometry.d {
+        if view.lost[i] {
+            fill_block(view, i, array, scratch);
+        }
+    }
+}
+
+// Fills the block with data index i, which is on a failed member, from the log or by parity. Those below it are filled. The array is both
+// read and written, so that a fetch's put_block, which has a buffer of its own to fill, does not serve here.
+#[tactic(auto, using(crate::proofs::calls::GivenLaws::place_room, crate::proofs::calls::ViewLaws::record_room))]
+fn fill_block(view: &fetch::View, i: usize, array: &mut [u8], scratch: &mut fetch::Scratch)
+    requires rebuildable { Rebuildable (seen view.now array.old) }
+    requires i_lt_d { i < view.now.shelf.geometry.d }
+    requires filled_below { FilledBelow (seen view.now array.old) view.now.x i }
+    requires failed { failed_role view.now.shelf view.now.x i ≡ true }
+    ensures { array.new ≡ filled_at (seen view.now array.old) view.now.x i }
+{
+    let g = view.shelf.geometry;
+    let k = g.roles().block_number(g.s, view.x, i);
+    if let Some(r) = view.from.latest[i] {
+        stripe::blocks::copy_block(view.log, r as usize, array, k, g.b);
         return;
     }
-    refill_block(shelf, x, i, from, array, log, list, work, products);
-    stripe::blocks::copy_block(work, 0, array, k, g.b);
+    refill_block(view, i, array, scratch);
+    stripe::blocks::copy_block(&scratch.work, 0, array, k, g.b);
 }
 
-// Works back the block with data index i of stripe x in work. Where the other missing block is one of those below it, which are filled,
-// it is taken as it stands there, and P alone gives block i.
-fn refill_block(
-    shelf: record::Shelf,
-    x: usize,
-    i: usize,
-    from: sources::Sources,
-    array: &[u8],
-    log: &[u8],
-    list: &[u8],
-    work: &mut [u8],
-    products: &mut [u8],
-)
-    requires rebuildable { Rebuildable (lent shelf array.now log.now list.now) }
-    requires working_at { WorkingAt (lent shelf array.now log.now list.now) x i from work.old products.old }
-    requires filled_below { FilledBelow (lent shelf array.now log.now list.now) x i }
-    requires lost { Lost shelf list.now x i }
-    ensures work_after { work.new ≡ lost_block (lent shelf array.now log.now list.now) x i }
-    ensures products { Products products.new }
+// Works back the block with data index i in scratch. Where the other missing block is one of those below it, which are filled, it is taken
+// as it stands there: i stands for both, and P alone gives block i.
+fn refill_block(view: &fetch::View, i: usize, array: &[u8], scratch: &mut fetch::Scratch)
+    requires rebuildable { Rebuildable (seen view.now array.now) }
+    requires i_lt_d { i < view.now.shelf.geometry.d }
+    requires filled_below { FilledBelow (seen view.now array.now) view.now.x i }
+    requires lost { Lost view.now.shelf view.now.list.now view.now.x i }
+    ensures { block view.now.shelf.geometry.b 0 scratch.new.work ≡
+        lost_block (seen view.now array.now) view.now.x i }
 {
-    let missing = from.missing;
-    let y = sources::other_missing(shelf.geometry, missing, i);
-    let z = still_missing(i, y);
-    fetch::solve_originals(shelf, x, i, z, from, array, log, list, work, products);
-}
-
-// The other missing role y beside i, unless it is a block below i, which is filled; then i.
-fn still_missing(i: usize, y: usize) -> usize
-    ensures { result ≡ still_missing i y }
-{
-    if y < i {
-        return i;
-    }
-    y
+    let y = sources::other_missing(view.shelf.geometry, view.from.missing, i);
+    view.solve_originals(i, y.max(i), array, scratch);
 }
 
 // The record after a rebuild, and the list: the array's flags clear, and the entries of the stripes with a parity on a failed member

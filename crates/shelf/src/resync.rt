@@ -27,6 +27,6 @@ pub fn make_stripe(
     ensures array_after { array.new ≡ parity_made (place_at g x) g.d g.parities g.b array.old }
     ensures rewritten { Rewritten g (drop_stripe g.d x (entries (words list.old) g)) list.new result }
 {
-    stripe::parity::make_parity(array, g.layout, g.d, g.parities, g.s, x, g.b);
+    stripe::parity::make_parity(array, g.roles(), g.s, x, g.b);
     alter::drop_stripe(list, g, x, n)
 }

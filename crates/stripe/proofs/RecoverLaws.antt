@@ -1,7 +1,7 @@
 -- Laws of recovery in two steps: each step on every column, one after the other, is what recovery is defined to be.
 -- Assumes nothing.
 use mathlib.Core.Bool.{Bool, true, false, ◌||◌}
-use mathlib.Core.List.{List, [], ◌++◌, append-nil}
+use mathlib.Core.List.{List, ◌++◌, append-nil}
 use mathlib.Core.Logic.{◌⊎◌, inl, inr, ⊎_elim, ◌≢◌}
 use mathlib.Core.Path.{◌≡◌, refl, sym, ap, ap₂, ◌∙◌, subst}
 use Prim.Native.Nat.{ℕ, ◌+◌, ◌*◌, ◌≤◌, ◌<◌}
@@ -9,18 +9,22 @@ use native.Mathlib.Omega.{arith}
 use lib.Bits.{bit_xor}
 use lib.Dec.{eqb}
 use lib.ListN.{length, get_or}
-use borrow.Author.Tests.{eqb-true, eq-eqb, ne_eqb}
+use borrow.Author.Tests.{eq-eqb, ne_eqb}
 use Rattle.field.specs.Field.{times, inverse}
 use Rattle.field.proofs.Laws.{xor_zero_l}
-use Rattle.stripe.specs.Blocks.{gen, block, byte_of, put}
+use Rattle.stripe.specs.Blocks.{gen, byte_of, put}
 use Rattle.stripe.specs.Parity.{pick, parity_p, parity_q, made, Recoverable, without, rest_p, solved, data_solved, recovered}
 use Rattle.stripe.specs.Places.{in_order, numbered, column_at, by_column, parity_made}
-use Rattle.stripe.specs.below.Tables.{Tabled, Held, Whole}
-use Rattle.stripe.specs.below.Steps.{Gathers, Starts, zeros, taken, plus, there_p, stand_in, standing_q, coefficient, of_sum, sum_of, Workable, replaced, data_step, parity_step}
+use Rattle.stripe.specs.below.Tables.{Held}
+use Rattle.stripe.specs.below.Steps.{plus, there_p, stand_in, standing_q, coefficient, of_sum, sum_of, replaced, data_step, parity_step}
+use Rattle.stripe.specs.below.Gathering.{buffer, at_role, gathered, added, Holds}
+use Rattle.stripe.specs.below.Recovery.{Workable, replaced_in, OwnOriginals}
+use Rattle.stripe.specs.declared.solve.Originals.{Originals}
+use Rattle.stripe.specs.declared.recover.Shape.{Shape}
 use Rattle.stripe.specs.Calls.{each_column}
-use Rattle.stripe.proofs.Lists.{less_or_not, length-gen, gen_ext}
-use Rattle.stripe.proofs.BlockLaws.{fits, ext_bytes, length-put, get_or-put_in, block-whole}
-use Rattle.stripe.proofs.Sums.{same_or_not, pick_same, pick_other, pick_less, pick-not_less, either_true, without_other, without_ext}
+use Rattle.stripe.proofs.Lists.{less_or_not, gen_ext}
+use Rattle.stripe.proofs.BlockLaws.{fits, ext_bytes, get_or-put_in}
+use Rattle.stripe.proofs.Sums.{same_or_not, pick_same, pick_other, pick_less, pick-not_less, without_other, without_ext}
 use Rattle.stripe.proofs.ColumnLaws.{made_data, made_p, made_q, made_ext, parity_p_ext, parity_q_ext, solved_ignores, second_of_two, rest_p_ext, stand_in_plain, recovered_other}
 use Rattle.stripe.proofs.SolveLaws.{by_p, by_q, stand_in_first, stand_in_second, stand_in_other}
 use Rattle.stripe.proofs.PlaceLaws.{by_column_ext}
@@ -262,19 +266,6 @@ module _ (d x y : ℕ) (D : ℕ → ℕ) (i : ℕ) where
 
 -- ---- a block gathered in work and copied out
 
--- what h makes of each column, gathered by way of the table and copied to role m
-column-put : (h : (ℕ → ℕ) → ℕ) (r b m : ℕ) (ns l w n : List ℕ) → ((D E : ℕ → ℕ) → ((i : ℕ) → i < r → D i ≡ E i) → h D ≡ h E)
-    → length l ≡ r * b → Tabled r in_order ns → m < r → w ≡ gen b (by_column h (numbered ns) b (l ++ [])) → n ≡ put b m (block b 0 w) l
-    → n ≡ each_column (replaced m h) r b l
-column-put h r b m ns l w n local len t hm ew en =
-    en ∙ ap (λ (x : List ℕ). put b m x l) (block-whole b w (ap length ew ∙ length-gen b (by_column h (numbered ns) b (l ++ []))) ∙ ew ∙ same) ∙ put-column r b l len h m hm
-  where
-    same : gen b (by_column h (numbered ns) b (l ++ [])) ≡ gen b (by_column h in_order b l)
-    same =
-        ap (λ (x : List ℕ). gen b (by_column h (numbered ns) b x)) (append-nil l)
-        ∙ gen_ext b (by_column h (numbered ns) b l) (by_column h in_order b l)
-        (λ j q. by_column_ext h r local (numbered ns) in_order b l (λ i p. unfold numbered in t i p) j)
-
 solved_local : (d k x y : ℕ) → 1 ≤ k → Recoverable k x y → x < d → (D E : ℕ → ℕ) → ((i : ℕ) → i < d + k → D i ≡ E i) → solved d x y D ≡ solved d x y E
 solved_local d k x y some few h D E e = solved_ignores d k x y D E some few h (λ i p u v. e i p)
 
@@ -294,92 +285,104 @@ in_order_lem i = refl
 pub fewer_held : {m n b size : ℕ} {ns : List ℕ} → m ≤ n → Held n b size ns → Held m b size ns
 fewer_held h t = record { long = (let l = t.long in omega arith); within = λ i p. t.within i (omega arith) }
 
-module _ (d k b : ℕ) (l w ns : List ℕ) (ok : Workable d k b l w ns) where
-  some : 1 ≤ k
-  some = ok.measures.parity-least
+-- the numbers of a stripe's own roles
+pub own_held : (s : Shape) (l : List ℕ) → length l ≡ (s.d + s.parities) * s.b → length s.numbers ≡ 18 → Held (s.d + s.parities) s.b (length l + 0) s.numbers
+own_held s l long wide =
+    record {
+      long = omega (arith, wide, s.measures.data_most, s.measures.parity-most);
+      within = λ i h. subst (λ (m : ℕ). m * s.b + s.b ≤ length l + 0) (sym (s.table i h ∙ in_order_lem i)) (omega (arith, fits i (s.d + s.parities) s.b l long h));
+    }
 
-  pub stripe-long : length l ≡ (d + k) * b
-  stripe-long = ok.measures.size_is
+-- the stripe l of shape s, as originals
+module _ (s : Shape) (l : List ℕ) (o : Originals) (is : OwnOriginals s l o) (long : length l ≡ (s.d + s.parities) * s.b) where
+  some : 1 ≤ s.parities
+  some = s.measures.parity-least
 
-  -- the table, for the sums over the stripe alone
-  pub held : Held (d + k) b (length l + length {A = ℕ} []) ns
-  held =
-      record {
-        long = ok.long;
-        within = λ i h. subst (λ (m : ℕ). m * b + b ≤ length l + 0) (sym (ok.table i h ∙ in_order_lem i)) (omega (arith, fits i (d + k) b l stripe-long h));
-      }
+  buffer_is : buffer o ≡ l
+  buffer_is = ap₂ (λ (a g : List ℕ). a ++ g) is.array_is is.log_is ∙ append-nil l
 
-  pub gathers : (v : List ℕ) → length v ≡ b → Gathers d (d + k) b l [] ns v
-  gathers v e = record { data_most = ok.measures.data_most; whole = stripe-long; held = fewer_held (omega (arith, some)) held; working = e }
+  -- a byte of a role
+  own_byte : (i j : ℕ) → i < s.d + s.parities → column_at (numbered o.numbers.now) o.b (buffer o) j i ≡ get_or l (i * s.b + j) 0
+  unfolding column_at byte_of numbered
+  own_byte i j h =
+      ap₂ (λ (n : ℕ) (a : List ℕ). get_or a (n * o.b + j) 0) (ap (λ (ns : List ℕ). get_or ns i 0) is.numbers_are ∙ s.table i h ∙ in_order_lem i) buffer_is
+      ∙ ap (λ (b : ℕ). get_or l (i * b + j) 0) is.b_is
 
-  pub data_put : (x y : ℕ) (v n : List ℕ) → Recoverable k x y → x < d → v ≡ gen b (by_column (solved d x y) (numbered ns) b (l ++ [])) → n ≡ put b x (block b 0 v) l
-      → n ≡ each_column (replaced x (solved d x y)) (d + k) b l
-  data_put x y v n few h ev en = column-put (solved d x y) (d + k) b x ns l v n (solved_local d k x y some few h) stripe-long ok.table (omega arith) ev en
+  -- Q is held, and every role
+  pub q_held : 2 ≤ s.parities → Holds (o.d + 2) o
+  q_held two = fewer_held (omega (arith, is.d_is, two)) is.held
 
-  pub p_put : (z v n : List ℕ) → Starts b z zeros → v ≡ gen b (plus (by_column (there_p d d d) (numbered ns) b (l ++ [])) z) → n ≡ put b d (block b 0 v) l
-      → n ≡ each_column (replaced d (parity_p d)) (d + k) b l
-  p_put z v n hz ev en =
-      column-put (parity_p d) (d + k) b d ns l v n (λ D E e. parity_p_ext d D E (λ i p. e i (omega arith))) stripe-long ok.table (omega arith) (ev ∙ same) en
+  pub role_held : (i : ℕ) → i < s.d + s.parities → Holds (i + 1) o
+  role_held i h = fewer_held (omega arith) is.held
+
+  -- What h makes of each column, which is what g makes of it, gathered and copied to member m. In h stands the originals' number of data blocks.
+  module _ (h : ℕ → (ℕ → ℕ) → ℕ) (g : (ℕ → ℕ) → ℕ) (same : (D : ℕ → ℕ) → h s.d D ≡ g D)
+      (local : (D E : ℕ → ℕ) → ((i : ℕ) → i < s.d + s.parities → D i ≡ E i) → g D ≡ g E) where
+    own_gathered : gathered (h o.d) o ≡ gen s.b (by_column g in_order s.b l)
+    own_gathered =
+        ap (λ (n : ℕ). gathered (h n) o) is.d_is
+        ∙ ap (λ (n : ℕ). gen n (by_column (h s.d) (numbered o.numbers.now) n (buffer o))) is.b_is
+        ∙ ap₂ (λ (ns a : List ℕ). gen s.b (by_column (h s.d) (numbered ns) s.b a)) is.numbers_are buffer_is
+        ∙ gen_ext s.b (by_column (h s.d) (numbered s.numbers) s.b l) (by_column g in_order s.b l)
+        (λ j q. unfold by_column in same (column_at (numbered s.numbers) s.b l j)
+        ∙ unfold by_column in by_column_ext g (s.d + s.parities) local (numbered s.numbers) in_order s.b l (λ i p. unfold numbered in s.table i p) j)
+
+    gathered_put : (m : ℕ) (w n : List ℕ) → m < s.d + s.parities → w ≡ gathered (h o.d) o → n ≡ put s.b m w l → n ≡ replaced_in s m g l
+    gathered_put m w n hm ew en = en ∙ ap (λ (x : List ℕ). put s.b m x l) (ew ∙ own_gathered) ∙ put-column (s.d + s.parities) s.b l long g m hm
+
+  pub data_put : (x y : ℕ) (w n : List ℕ) → Recoverable s.parities x y → x < s.d → w ≡ gathered (solved o.d x y) o → n ≡ put s.b x w l → n ≡ replaced_in s x (solved s.d x y) l
+  data_put x y w n few hx =
+      gathered_put (λ (d : ℕ). solved d x y) (solved s.d x y) (λ D. refl) (solved_local s.d s.parities x y some few hx) x w n (omega arith)
+
+  -- the sum of x and y, copied to y; x had of it
+  pub sum_put : (x y : ℕ) (w n : List ℕ) → y < s.d → w ≡ gathered (rest_p o.d x y) o → n ≡ put s.b y w l → n ≡ replaced_in s y (rest_p s.d x y) l
+  sum_put x y w n hy =
+      gathered_put (λ (d : ℕ). rest_p d x y) (rest_p s.d x y) (λ D. refl)
+      (λ D E e. rest_p_ext s.d x y D E (λ i p u v. e i (omega arith)) (e s.d (omega (arith, some)))) y w n (omega arith)
+
+  pub of_sum_put : 2 ≤ s.parities → (x y : ℕ) (w n : List ℕ) → x < s.d → w ≡ gathered (of_sum o.d x y) o → n ≡ put s.b x w l → n ≡ replaced_in s x (of_sum s.d x y) l
+  of_sum_put two x y w n hx =
+      gathered_put (λ (d : ℕ). of_sum d x y) (of_sum s.d x y) (λ D. refl) (of_sum_local s.d s.parities x y two hx) x w n (omega arith)
+
+  -- P of zeros and the data
+  pub p_put : (z w n : List ℕ) → ((j : ℕ) → j < s.b → get_or z j 0 ≡ 0) → w ≡ added (there_p o.d s.d s.d) o z → n ≡ put s.b s.d w l → n ≡ replaced_in s s.d (parity_p s.d) l
+  p_put z w n hz ew =
+      gathered_put (λ (d : ℕ). there_p d s.d s.d) (parity_p s.d) all_there (λ D E e. parity_p_ext s.d D E (λ i p. e i (omega arith))) s.d w n (omega (arith, some)) (ew ∙ alone)
     where
-      same : gen b (plus (by_column (there_p d d d) (numbered ns) b (l ++ [])) z) ≡ gen b (by_column (parity_p d) (numbered ns) b (l ++ []))
-      same = unfold plus by_column there_p zeros in (
-          gen_ext b (plus (by_column (there_p d d d) (numbered ns) b (l ++ [])) z) (by_column (parity_p d) (numbered ns) b (l ++ []))
-          (λ j q.
-          ap (λ (z : ℕ). bit_xor z (parity_p d (without d d (column_at (numbered ns) b (l ++ []) j)))) (hz j q)
-          ∙ xor_zero_l (parity_p d (without d d (column_at (numbered ns) b (l ++ []) j)))
-          ∙ parity_p_ext d (without d d (column_at (numbered ns) b (l ++ []) j)) (column_at (numbered ns) b (l ++ []) j)
-          (λ i p. without_other d d (column_at (numbered ns) b (l ++ []) j) i (λ e. omega arith) (λ e. omega arith))))
+      all_there : (D : ℕ → ℕ) → there_p s.d s.d s.d D ≡ parity_p s.d D
+      all_there D = unfold there_p in parity_p_ext s.d (without s.d s.d D) D (λ i p. without_other s.d s.d D i (λ e. omega arith) (λ e. omega arith))
 
-  pub q_put : 2 ≤ k → (v n : List ℕ) → v ≡ gen b (by_column (standing_q d d d) (numbered ns) b (l ++ [])) → n ≡ put b (d + 1) (block b 0 v) l
-      → n ≡ each_column (replaced (d + 1) (parity_q d)) (d + k) b l
-  q_put two v n ev en =
-      column-put (parity_q d) (d + k) b (d + 1) ns l v n (λ D E e. parity_q_ext d D E (λ i p. e i (omega arith))) stripe-long ok.table (omega arith) (ev ∙ same) en
+      alone : added (there_p o.d s.d s.d) o z ≡ gathered (there_p o.d s.d s.d) o
+      alone =
+          unfold plus by_column in
+          gen_ext o.b _ _
+          (λ j q. ap (λ (v : ℕ). bit_xor v (there_p o.d s.d s.d (column_at (numbered o.numbers.now) o.b (buffer o) j))) (hz j (omega (arith, is.b_is))) ∙ xor_zero_l _)
+
+  pub q_put : 2 ≤ s.parities → (w n : List ℕ) → w ≡ gathered (standing_q o.d s.d s.d) o → n ≡ put s.b (s.d + 1) w l → n ≡ replaced_in s (s.d + 1) (parity_q s.d) l
+  q_put two w n =
+      gathered_put (λ (d : ℕ). standing_q d s.d s.d) (parity_q s.d) all_there (λ D E e. parity_q_ext s.d D E (λ i p. e i (omega arith))) (s.d + 1) w n (omega arith)
     where
-      same : gen b (by_column (standing_q d d d) (numbered ns) b (l ++ [])) ≡ gen b (by_column (parity_q d) (numbered ns) b (l ++ []))
-      same = unfold by_column standing_q in (
-          gen_ext b (by_column (standing_q d d d) (numbered ns) b (l ++ [])) (by_column (parity_q d) (numbered ns) b (l ++ []))
-          (λ j q. parity_q_ext d (stand_in d d d (column_at (numbered ns) b (l ++ []) j)) (column_at (numbered ns) b (l ++ []) j)
-          (λ i p. stand_in_plain d d d (column_at (numbered ns) b (l ++ []) j) i (inl refl) p ∙ without_other d d (column_at (numbered ns) b (l ++ []) j) i (λ e. omega arith) (λ e. omega arith))))
+      all_there : (D : ℕ → ℕ) → standing_q s.d s.d s.d D ≡ parity_q s.d D
+      all_there D = unfold standing_q in
+          parity_q_ext s.d (stand_in s.d s.d s.d D) D
+          (λ i p. stand_in_plain s.d s.d s.d D i (inl refl) p ∙ without_other s.d s.d D i (λ e. omega arith) (λ e. omega arith))
 
-  -- the sum of x and y, copied to y
-  pub sum-put : (x y : ℕ) (v n : List ℕ) → y < d → v ≡ gen b (by_column (rest_p d x y) (numbered ns) b (l ++ [])) → n ≡ put b y (block b 0 v) l
-      → n ≡ each_column (replaced y (rest_p d x y)) (d + k) b l
-  sum-put x y v n h ev en =
-      column-put (rest_p d x y) (d + k) b y ns l v n (λ D E e. rest_p_ext d x y D E (λ i p u v. e i (omega arith)) (e d (omega arith))) stripe-long ok.table (omega arith) ev en
-
-  pub of_sum_put : 2 ≤ k → (x y : ℕ) (v n : List ℕ) → x < d → v ≡ gen b (by_column (of_sum d x y) (numbered ns) b (l ++ [])) → n ≡ put b x (block b 0 v) l
-      → n ≡ each_column (replaced x (of_sum d x y)) (d + k) b l
-  of_sum_put two x y v n h ev en = column-put (of_sum d x y) (d + k) b x ns l v n (of_sum_local d k x y two h) stripe-long ok.table (omega arith) ev en
-
-  -- x, which is v too, is in its place in m: y is the sum of both in m
-  pub other_put : (x y : ℕ) (v m u n : List ℕ) → x < d → y < d → length v ≡ b → m ≡ put b x (block b 0 v) l → u ≡ gen b (plus (taken (get_or ns y 0 * b) (m ++ [])) v)
-      → n ≡ put b y (block b 0 u) m → n ≡ each_column (replaced y (sum_of x y)) (d + k) b m
-  other_put x y v m u n hx hy lv em eu en =
-      column-put (sum_of x y) (d + k) b y ns m u n (λ D E e. unfold sum_of in ap₂ bit_xor (e x (omega arith)) (e y (omega arith))) m_long ok.table (omega arith) (eu ∙ same) en
+  -- w is block x: with block y added it is the sum of x and y, copied to y
+  pub other_put : (x y : ℕ) (w u n : List ℕ) → x < s.d → y < s.d → ((j : ℕ) → j < s.b → get_or w j 0 ≡ get_or l (x * s.b + j) 0) → u ≡ added (at_role y) o w → n ≡ put s.b y u l
+      → n ≡ replaced_in s y (sum_of x y) l
+  other_put x y w u n hx hy cell eu =
+      gathered_put (λ (d : ℕ). sum_of x y) (sum_of x y) (λ D. refl) (λ D E e. unfold sum_of in ap₂ bit_xor (e x (omega arith)) (e y (omega arith))) y u n (omega arith) (eu ∙ both)
     where
-      x_fits : x * b + b ≤ length l
-      x_fits = fits x (d + k) b l stripe-long (omega arith)
+      both : added (at_role y) o w ≡ gathered (sum_of x y) o
+      both =
+          unfold plus by_column sum_of in
+          gen_ext o.b _ _
+          (λ j q. ap (λ (v : ℕ). bit_xor v (column_at (numbered o.numbers.now) o.b (buffer o) j y)) (cell j (omega (arith, is.b_is)) ∙ sym (own_byte x j (omega arith))))
 
-      m_is : m ≡ put b x v l
-      m_is = em ∙ ap (λ (z : List ℕ). put b x z l) (block-whole b v lv)
-
-      m_long : length m ≡ (d + k) * b
-      m_long = ap length m_is ∙ length-put b x l x_fits v lv ∙ stripe-long
-
-      cell : (j : ℕ) → j < b → get_or v j 0 ≡ column_at (numbered ns) b (m ++ []) j x
-      cell j q = unfold column_at byte_of numbered in (
-          sym (get_or-put_in b x l x_fits v lv j q) ∙ ap (λ (z : List ℕ). get_or z (x * b + j) 0) (sym m_is)
-          ∙ ap₂ (λ (z : List ℕ) (i : ℕ). get_or z (i * b + j) 0) (sym (append-nil m)) (sym (ok.table x (omega arith) ∙ in_order_lem x)))
-
-      same : gen b (plus (taken (get_or ns y 0 * b) (m ++ [])) v) ≡ gen b (by_column (sum_of x y) (numbered ns) b (m ++ []))
-      same = unfold plus taken by_column sum_of in (
-          gen_ext b (plus (taken (get_or ns y 0 * b) (m ++ [])) v) (by_column (sum_of x y) (numbered ns) b (m ++ []))
-          (λ j q. ap₂ bit_xor (cell j q) (unfold column_at byte_of numbered in refl)))
-
--- the same arguments after a step, which keeps all lengths
-pub workable_after : {d k b : ℕ} {l w ns : List ℕ} (m v : List ℕ) → length m ≡ length l → length v ≡ length w → Workable d k b l w ns → Workable d k b m v ns
-workable_after {d} {k} {b} m v em ev ok =
-    record { measures = subst (λ (n : ℕ). Whole d k b n) (sym em) ok.measures; working = ev ∙ ok.working; long = ok.long; table = ok.table }
+-- a block put in is read there
+pub put_read : (s : Shape) (x : ℕ) (w l m : List ℕ) → x < s.d → Workable s l w → m ≡ put s.b x w l → (j : ℕ) → j < s.b → get_or w j 0 ≡ get_or m (x * s.b + j) 0
+put_read s x w l m hx ok em j q =
+    sym (get_or-put_in s.b x l (fits x (s.d + s.parities) s.b l ok.whole (omega arith)) w ok.working j q) ∙ ap (λ (z : List ℕ). get_or z (x * s.b + j) 0) (sym em)
 
 -- two steps in a row
 pub in_a_row : (f g : (ℕ → ℕ) → ℕ → ℕ) (r b : ℕ) (l m n : List ℕ) → m ≡ each_column f r b l → n ≡ each_column g r b m → n ≡ each_column g r b (each_column f r b l)
@@ -414,11 +417,6 @@ module _ (d k b x y : ℕ) (l : List ℕ) where
 
   pub data_none : length l ≡ (d + k) * b → d ≤ x → d ≤ y → l ≡ each_column (data_step d x y) (d + k) b l
   data_none len hx hy = unchanged (data_step d x y) (d + k) b l len (λ j i q p. none_data d x y (λ m. byte_of b l m j) i hx hy)
-
--- where Q is named there is one
-pub named_q : (d k x y : ℕ) → x < d + k → y < d + k → (eqb x (d + 1) || eqb y (d + 1)) ≡ true → 2 ≤ k
-named_q d k x y hx hy e =
-    ⊎_elim (λ f. let q = eqb-true x (d + 1) f in omega arith) (λ f. let q = eqb-true y (d + 1) f in omega arith) (either_true (eqb x (d + 1)) (eqb y (d + 1)) e)
 
 -- the stripe after the step of the parity: P and Q named, one of them, none
 module _ (d k b x y : ℕ) (l : List ℕ) (most : k ≤ 2) (len : length l ≡ (d + k) * b) where

@@ -1,2 +1,5 @@
 pub mod Tables
 pub mod Steps
+pub mod Refusals
+pub mod Gathering
+pub mod Recovery

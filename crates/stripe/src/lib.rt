@@ -20,6 +20,31 @@ mod weights;
 
 ghost use Rattle.std.specs.Prelude.{◌≡◌, length};
 ghost use Rattle.stripe.specs.Calls.{make_code, make_buffer, recover_code, recover_buffer, bad_measures, members_code, bad_member, too_many};
+ghost use Rattle.stripe.specs.below.Refusals.{answer_of};
+
+// Why a call is refused, in the order in which the reasons are tried; the number is the one that C
+// knows the refusal by.
+#[derive(Clone, Copy, Debug, PartialEq, Eq)]
+pub enum Refusal {
+    // A measure is out of its range.
+    Measures = 1,
+    // The buffer is not as long as the measures say.
+    Length = 2,
+    // The stripe has no such member.
+    Member = 6,
+    // Two members are missing, and there is one parity.
+    TwoMissing = 11,
+}
+
+// What a call answers by what its check found: 0, or the refusal's number.
+pub fn answer(checked: Result<(), Refusal>) -> u32
+    ensures { result ≡ answer_of checked }
+{
+    match checked {
+        Ok(()) => 0,
+        Err(refusal) => refusal as u32,
+    }
+}
 
 // Makes the parities of the stripe, and answers 0. Answers 1 where d is not 2 to 16, parities not 1
 // or 2, or b not 1 to 4,096, else 2 where the stripe is not d + parities blocks long, and stores
@@ -28,11 +53,11 @@ pub fn stripe_make_parity(d: u32, parities: u32, b: u32, stripe: &mut [u8]) -> u
     ensures value { result ≡ make_code d parities b (length stripe.old) }
     ensures stripe_after { stripe.new ≡ make_buffer d parities b stripe.old }
 {
-    let code = make_code(d, parities, b, stripe.len());
-    if code == 0 {
+    let checked = check_stripe(d, parities, b, stripe.len());
+    if checked.is_ok() {
         parity::make_own_parity(stripe, d as usize, parities as usize, b as usize);
     }
-    code
+    answer(checked)
 }
 
 // Recovers the members x and y of the stripe from the others, and answers 0; the same member named
@@ -42,8 +67,8 @@ pub fn stripe_recover(d: u32, parities: u32, b: u32, x: u32, y: u32, stripe: &mu
     ensures value { result ≡ recover_code d parities b x y (length stripe.old) }
     ensures stripe_after { stripe.new ≡ recover_buffer d parities b x y stripe.old }
 {
-    let code = recover_code(d, parities, b, x, y, stripe.len());
-    if code == 0 {
+    let checked = check_recovery(d, parities, b, x, y, stripe.len());
+    if checked.is_ok() {
         recover::recover(
             stripe,
             d as usize,
@@ -53,69 +78,48 @@ pub fn stripe_recover(d: u32, parities: u32, b: u32, x: u32, y: u32, stripe: &mu
             y as usize,
         );
     }
-    code
+    answer(checked)
 }
 
-// What stripe_make_parity answers for a stripe of n bytes.
-fn make_code(d: u32, parities: u32, b: u32, n: usize) -> u32
-    ensures { result ≡ make_code d parities b n }
+// Whether the parities of a stripe of n bytes can be made.
+fn check_stripe(d: u32, parities: u32, b: u32, n: usize) -> Result<(), Refusal>
+    ensures { answer_of result ≡ make_code d parities b n }
 {
     if bad_measures(d, parities, b) {
-        return 1;
+        return Err(Refusal::Measures);
     }
     if n != (d as usize + parities as usize) * b as usize {
-        return 2;
+        return Err(Refusal::Length);
     }
-    0
+    Ok(())
 }
 
 // Whether d is not 2 to 16, parities not 1 or 2, or b not 1 to 4,096.
 pub fn bad_measures(d: u32, parities: u32, b: u32) -> bool
     ensures { result ≡ bad_measures d parities b }
 {
-    if d < 2 {
-        return true;
-    }
-    if 16 < d {
-        return true;
-    }
-    if parities < 1 {
-        return true;
-    }
-    if 2 < parities {
-        return true;
-    }
-    if b < 1 {
-        return true;
-    }
-    4096 < b
+    !(2..=16).contains(&d) || !(1..=2).contains(&parities) || !(1..=4096).contains(&b)
 }
 
-// What stripe_recover answers for a stripe of n bytes.
-fn recover_code(d: u32, parities: u32, b: u32, x: u32, y: u32, n: usize) -> u32
-    ensures { result ≡ recover_code d parities b x y n }
+// Whether the members x and y of a stripe of n bytes can be recovered.
+fn check_recovery(d: u32, parities: u32, b: u32, x: u32, y: u32, n: usize) -> Result<(), Refusal>
+    ensures { answer_of result ≡ recover_code d parities b x y n }
 {
-    let code = make_code(d, parities, b, n);
-    if code != 0 {
-        return code;
-    }
-    members_code(d, parities, x, y)
+    check_stripe(d, parities, b, n)?;
+    check_members(d, parities, x, y)
 }
 
-// What stripe_recover answers for the members x and y, where the rest is not refused.
-fn members_code(d: u32, parities: u32, x: u32, y: u32) -> u32
-    ensures { result ≡ members_code d parities x y }
+// Whether the members x and y can be recovered, where the rest is not refused.
+fn check_members(d: u32, parities: u32, x: u32, y: u32) -> Result<(), Refusal>
+    ensures { answer_of result ≡ members_code d parities x y }
 {
-    if bad_member(d, parities, x) {
-        return 6;
-    }
-    if bad_member(d, parities, y) {
-        return 6;
+    if bad_member(d, parities, x) || bad_member(d, parities, y) {
+        return Err(Refusal::Member);
     }
     if too_many(parities, x, y) {
-        return 11;
+        return Err(Refusal::TwoMissing);
     }
-    0
+    Ok(())
 }
 
 // Whether a stripe of d data blocks and so many parities has no member x.
@@ -129,8 +133,5 @@ fn bad_member(d: u32, parities: u32, x: u32) -> bool
 fn too_many(parities: u32, x: u32, y: u32) -> bool
     ensures { result ≡ too_many parities x y }
 {
-    if 2 <= parities {
-        return false;
-    }
-    x != y
+    parities < 2 && x != y
 }

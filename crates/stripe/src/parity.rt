@@ -1,78 +1,56 @@
 // P of a stripe, and Q where it has two parities, made where its blocks stand in an array.
 //
-// A stripe is taken 64 columns at a time, so that their sums are small while the data
-// blocks are added to them, from the last to the first: Q by Horner's rule, which takes a doubling a
-// block and no product. With one parity the functions for P alone do it, which touch no other sum.
+// A stripe is taken 64 columns at a time, so that their sums are small while the data blocks are
+// added to them, from the last to the first: Q by Horner's rule, which takes a doubling a block and
+// no product. K is the number of parities: the compiler makes the functions once for each, so that
+// those for P alone add to no other sum. The table of offsets and d are no struct: it
+// would take the place of one parameter more than it brings, beside the columns of each function.
 ghost use Rattle.std.specs.Prelude.{◌≡◌, List, ℕ, ◌+◌, ◌*◌, ◌≤◌, ◌<◌, length};
 ghost use Rattle.stripe.specs.Places.{in_order, place, numbered, parity_made, parity_made_all};
-ghost use Rattle.stripe.specs.below.Tables.{Placed, Whole, Measures};
-ghost use Rattle.stripe.specs.Parity.{parity_p};
-ghost use Rattle.stripe.specs.below.Steps.{Starts, zeros, later, by_start, taken, plus, twice_plus, PutRow, Spans, Disjoint, SumsAt, Partly};
+ghost use Rattle.stripe.specs.below.Tables.{Placed, Whole, Measures, Roles};
+ghost use Rattle.stripe.specs.below.Steps.{Starts, taken, plus, twice_plus, PutRow, Spans, Disjoint, SumsAt, Partly};
 
-use super::{places, rows};
+use super::places::{self, Layout};
 
 // Makes the parities of every stripe of the array, of stripes stripes.
-pub fn make_all_parity(
-    array: &mut [u8],
-    layout: usize,
-    d: usize,
-    parities: usize,
-    stripes: usize,
-    b: usize,
-)
-    requires le_d { 2 ≤ d }
-    requires d_bound { d ≤ 16 }
-    requires le_parities { 1 ≤ parities }
-    requires parities_bound { parities ≤ 2 }
+pub fn make_all_parity(array: &mut [u8], layout: Layout, stripes: usize, b: usize)
+    requires le_d { 2 ≤ layout.d }
     requires stripes_bound { stripes ≤ 65536 }
     requires le_b { 1 ≤ b }
     requires b_bound { b ≤ 4096 }
-    requires array_len { length array.old ≡ (d + parities) * stripes * b }
-    ensures { array.new ≡ parity_made_all stripes (place layout d parities stripes) d parities b array.old }
+    requires array_len { length array.old ≡ (layout.d + layout.parities) * stripes * b }
+    ensures { array.new ≡ parity_made_all stripes (place layout.number layout.d layout.parities stripes) layout.d layout.parities b array.old }
 {
-    let mut x: usize = 0;
-    while x < stripes {
-        make_parity(array, layout, d, parities, stripes, x, b);
-        x += 1;
+    for x in 0..stripes {
+        make_parity(array, layout, stripes, x, b);
     }
 }
 
 // Makes the parities of stripe x of the array, of stripes stripes.
-pub fn make_parity(
-    array: &mut [u8],
-    layout: usize,
-    d: usize,
-    parities: usize,
-    stripes: usize,
-    x: usize,
-    b: usize,
-)
-    requires { Measures d parities stripes x b (length array.old) }
-    ensures { array.new ≡ parity_made (place layout d parities stripes x) d parities b array.old }
+pub fn make_parity(array: &mut [u8], layout: Layout, stripes: usize, x: usize, b: usize)
+    requires { Measures layout.d layout.parities stripes x b (length array.old) }
+    ensures { array.new ≡ parity_made (place layout.number layout.d layout.parities stripes x) layout.d layout.parities b array.old }
 {
-    if parities == 1 {
-        make_array_p(array, layout, d, stripes, x, b);
-        return;
+    if layout.parities == 1 {
+        make_array::<1>(array, layout, stripes, x, b);
+    } else {
+        make_array::<2>(array, layout, stripes, x, b);
     }
-    make_array_pq(array, layout, d, stripes, x, b);
 }
 
-// Makes P and Q of stripe x of the array.
-fn make_array_pq(array: &mut [u8], layout: usize, d: usize, stripes: usize, x: usize, b: usize)
-    requires { Measures d 2 stripes x b (length array.old) }
-    ensures { array.new ≡ parity_made (place layout d 2 stripes x) d 2 b array.old }
+// Makes the K parities of stripe x of the array. The layout is made again with K, a number that the
+// compiler knows.
+fn make_array<const K: usize>(array: &mut [u8], layout: Layout, stripes: usize, x: usize, b: usize)
+    requires { Measures layout.d K stripes x b (length array.old) }
+    ensures { array.new ≡ parity_made (place layout.number layout.d K stripes x) layout.d K b array.old }
 {
-    let ns = places::block_numbers(layout, d, 2, stripes, x);
-    make_pq_at(array, &ns, d, b);
-}
-
-// Makes P of stripe x of an array with one parity.
-fn make_array_p(array: &mut [u8], layout: usize, d: usize, stripes: usize, x: usize, b: usize)
-    requires { Measures d 1 stripes x b (length array.old) }
-    ensures { array.new ≡ parity_made (place layout d 1 stripes x) d 1 b array.old }
-{
-    let ns = places::block_numbers(layout, d, 1, stripes, x);
-    make_p_at(array, &ns, d, b);
+    let layout = Layout {
+        number: layout.number,
+        d: layout.d,
+        parities: K as u32,
+    };
+    let ns = layout.block_numbers(stripes, x);
+    make_at::<K>(array, &ns, layout.d as usize, b);
 }
 
 // Makes the parities of a stripe in a buffer of its own.
@@ -81,192 +59,113 @@ pub fn make_own_parity(stripe: &mut [u8], d: usize, parities: usize, b: usize)
     ensures { stripe.new ≡ parity_made in_order d parities b stripe.old }
 {
     if parities == 1 {
-        make_own_p(stripe, d, b);
-        return;
+        make_own::<1>(stripe, d, b);
+    } else {
+        make_own::<2>(stripe, d, b);
     }
-    make_own_pq(stripe, d, b);
 }
 
-// Makes P and Q of a stripe in a buffer of its own.
-fn make_own_pq(stripe: &mut [u8], d: usize, b: usize)
-    requires { Whole d 2 b (length stripe.old) }
-    ensures { stripe.new ≡ parity_made in_order d 2 b stripe.old }
+// Makes the K parities of a stripe in a buffer of its own.
+fn make_own<const K: usize>(stripe: &mut [u8], d: usize, b: usize)
+    requires { Whole d K b (length stripe.old) }
+    ensures { stripe.new ≡ parity_made in_order d K b stripe.old }
 {
-    let ns = places::own_numbers(d, 2);
-    make_pq_at(stripe, &ns, d, b);
+    let ns = places::own_numbers(d, K);
+    make_at::<K>(stripe, &ns, d, b);
 }
 
-// Makes P of a stripe with one parity in a buffer of its own.
-fn make_own_p(stripe: &mut [u8], d: usize, b: usize)
-    requires { Whole d 1 b (length stripe.old) }
-    ensures { stripe.new ≡ parity_made in_order d 1 b stripe.old }
-{
-    let ns = places::own_numbers(d, 1);
-    make_p_at(stripe, &ns, d, b);
-}
-
-// Makes P and Q of the stripe whose blocks have the numbers of the table ns.
-fn make_pq_at(array: &mut [u8], ns: &[usize], d: usize, b: usize)
-    requires le_d { 1 ≤ d }
-    requires d_bound { d ≤ 16 }
+// Makes the K parities of the stripe whose blocks have the numbers of the table ns.
+fn make_at<const K: usize>(array: &mut [u8], ns: &[usize], d: usize, b: usize)
+    requires roles { Roles d K }
     requires le_b { 1 ≤ b }
     requires b_bound { b ≤ 4096 }
-    requires placed { Placed (d + 2) b (length array.old) ns.now }
-    ensures { array.new ≡ parity_made (numbered ns.now) d 2 b array.old }
+    requires placed { Placed (d + K) b (length array.old) ns.now }
+    ensures { array.new ≡ parity_made (numbered ns.now) d K b array.old }
 {
-    let starts = places::block_starts(ns, d + 2, b);
-    make_pq_columns(array, &starts, d, b);
+    let starts = places::block_starts(ns, d + K, b);
+    make_columns::<K>(array, &starts, d, b);
 }
 
-// Makes P of the stripe, with one parity, whose blocks have the numbers of the table ns.
-fn make_p_at(array: &mut [u8], ns: &[usize], d: usize, b: usize)
-    requires d_bound { d ≤ 16 }
-    requires le_b { 1 ≤ b }
+// Makes the K parities of the stripe whose blocks start at the offsets of the table starts. The
+// last chunk ends where they end, even if some of its columns are made already.
+fn make_columns<const K: usize>(array: &mut [u8], starts: &[usize], d: usize, b: usize)
+    requires roles { Roles d K }
     requires b_bound { b ≤ 4096 }
-    requires placed { Placed (d + 1) b (length array.old) ns.now }
-    ensures { array.new ≡ parity_made (numbered ns.now) d 1 b array.old }
+    requires spans { Spans (d + K) b (length array.old) starts.now }
+    requires disjoint { Disjoint (d + K) b starts.now }
+    ensures { Partly starts.now d K b b array.old array.new }
 {
-    let starts = places::block_starts(ns, d + 1, b);
-    make_p_columns(array, &starts, d, b);
-}
-
-// Makes P and Q of the stripe whose blocks start at the offsets of the table starts.
-fn make_pq_columns(array: &mut [u8], starts: &[usize], d: usize, b: usize)
-    requires le_d { 1 ≤ d }
-    requires b_bound { b ≤ 4096 }
-    requires spans { Spans (d + 2) b (length array.old) starts.now }
-    requires disjoint { Disjoint (d + 2) b starts.now }
-    ensures { Partly starts.now d 2 b b array.old array.new }
-{
-    let mut o: usize = 0;
-    while o + 64 <= b {
-        make_pq_chunk(array, starts, d, o, 64);
-        o += 64;
+    for chunk in 0..b / 64 {
+        make_chunk::<K>(array, starts, d, 64 * chunk, 64);
     }
-    if o < b {
-        make_pq_chunk(array, starts, d, o, b - o);
+    if b < 64 {
+        make_chunk::<K>(array, starts, d, 0, b);
+    } else if b % 64 != 0 {
+        make_chunk::<K>(array, starts, d, b - 64, 64);
     }
 }
 
-// Makes P of the stripe, with one parity, whose blocks start at the offsets of the table starts.
-fn make_p_columns(array: &mut [u8], starts: &[usize], d: usize, b: usize)
-    requires b_bound { b ≤ 4096 }
-    requires spans { Spans (d + 1) b (length array.old) starts.now }
-    requires disjoint { Disjoint (d + 1) b starts.now }
-    ensures { Partly starts.now d 1 b b array.old array.new }
-{
-    let mut o: usize = 0;
-    while o + 64 <= b {
-        make_p_chunk(array, starts, d, o, 64);
-        o += 64;
-    }
-    if o < b {
-        make_p_chunk(array, starts, d, o, b - o);
-    }
-}
-
-// Makes columns o to o + w - 1 of P and Q, where those before are made. In the promise b is the
-// length of the blocks, which share no byte, and a₀ the array before the first columns.
-fn make_pq_chunk(array: &mut [u8], starts: &[usize], d: usize, o: usize, w: usize)
-    requires le_d { 1 ≤ d }
+// Makes columns o to o + w - 1 of the K parities, where those before are made. In the promise b is
+// the length of the blocks, which share no byte, and a₀ the array before the first columns.
+fn make_chunk<const K: usize>(array: &mut [u8], starts: &[usize], d: usize, o: usize, w: usize)
+    requires roles { Roles d K }
     requires w_bound { w ≤ 64 }
-    requires spans { Spans (d + 2) (o + w) (length array.old) starts.now }
-    ensures { (b : ℕ) (a₀ : List ℕ) → o + w ≤ b → Disjoint (d + 2) b starts.now → Partly starts.now d 2 b o a₀ array.old → Partly starts.now d 2 b (o + w) a₀ array.new }
+    requires spans { Spans (d + K) (o + w) (length array.old) starts.now }
+    ensures { (b : ℕ) (a₀ : List ℕ) → o + w ≤ b → Disjoint (d + K) b starts.now → Partly starts.now d K b o a₀ array.old → Partly starts.now d K b (o + w) a₀ array.new }
 {
-    let mut p = [0u8; 64];
-    let mut q = [0u8; 64];
-    sums(array, starts, &mut p, &mut q, d, o, w);
-    let atp = starts[d] + o;
-    let atq = starts[d + 1] + o;
-    put_row(array, atp, &p, w);
-    put_row(array, atq, &q, w);
-}
-
-// The same of P alone, where there is one parity.
-fn make_p_chunk(array: &mut [u8], starts: &[usize], d: usize, o: usize, w: usize)
-    requires w_bound { w ≤ 64 }
-    requires spans { Spans (d + 1) (o + w) (length array.old) starts.now }
-    ensures { (b : ℕ) (a₀ : List ℕ) → o + w ≤ b → Disjoint (d + 1) b starts.now → Partly starts.now d 1 b o a₀ array.old → Partly starts.now d 1 b (o + w) a₀ array.new }
-{
-    let mut p = [0u8; 64];
-    plain_sum(array, starts, &mut p, d, o, w);
-    let atp = starts[d] + o;
-    put_row(array, atp, &p, w);
-}
-
-// Sums up columns o to o + w - 1 of P in p, whose first w bytes are 0.
-fn plain_sum(array: &[u8], starts: &[usize], p: &mut [u8], d: usize, o: usize, w: usize)
-    requires w_in_bounds { w ≤ length p.old }
-    requires starts { Starts w p.old zeros }
-    requires spans { Spans d (o + w) (length array.now) starts.now }
-    ensures { Starts w p.new (later (by_start (parity_p d) starts.now array.now) o) }
-{
-    let mut i = d;
-    while 0 < i {
-        i -= 1;
-        rows::add_row(array, starts[i] + o, p, w);
+    let mut p = [0; 64];
+    let mut q = [0; 64];
+    sum_columns::<K>(array, starts, &mut p[..w], &mut q[..w], d, o, w);
+    put_row(array, starts[d] + o, &p[..w]);
+    if K == 2 {
+        put_row(array, starts[d + 1] + o, &q[..w]);
     }
 }
 
-// Sums up columns o to o + w - 1 of P in p and of Q in q.
-fn sums(array: &[u8], starts: &[usize], p: &mut [u8], q: &mut [u8], d: usize, o: usize, w: usize)
+// Sums up columns o to o + w - 1 of P in p and, where there is a Q, of Q in q.
+fn sum_columns<const K: usize>(
+    array: &[u8],
+    starts: &[usize],
+    p: &mut [u8],
+    q: &mut [u8],
+    d: usize,
+    o: usize,
+    w: usize,
+)
     requires le_d { 1 ≤ d }
-    requires w_in_bounds { w ≤ length p.old }
-    requires w_in_bounds_2 { w ≤ length q.old }
+    requires p_len { length p.old ≡ w }
+    requires q_len { length q.old ≡ w }
     requires spans { Spans d (o + w) (length array.now) starts.now }
-    ensures { SumsAt starts.now d array.now o w p.new q.new }
+    ensures { SumsAt starts.now d K array.now o w p.new q.new }
 {
-    let mut i = d - 1;
-    first_row(array, starts[i] + o, p, q, w);
-    while 0 < i {
-        i -= 1;
-        next_row(array, starts[i] + o, p, q, w);
+    let last = starts[d - 1] + o;
+    p.copy_from_slice(&array[last..last + w]);
+    q.copy_from_slice(&array[last..last + w]);
+    for i in (0..d - 1).rev() {
+        let at = starts[i] + o;
+        next_row::<K>(&array[at..at + w], p, q);
     }
 }
 
-// Sets p and q to the w bytes of src from at on.
-fn first_row(src: &[u8], at: usize, p: &mut [u8], q: &mut [u8], w: usize)
-    requires w_in_bounds { at + w ≤ length src.now }
-    requires w_in_bounds_2 { w ≤ length p.old }
-    requires w_in_bounds_3 { w ≤ length q.old }
-    ensures starts { Starts w p.new (taken at src.now) }
-    ensures starts_2 { Starts w q.new (taken at src.now) }
+// Adds the row to p and, where there is a Q, to twice q: one index goes through the three rows.
+fn next_row<const K: usize>(row: &[u8], p: &mut [u8], q: &mut [u8])
+    requires p_len { length p.old ≡ length row.now }
+    requires q_len { length q.old ≡ length row.now }
+    ensures p_added { Starts (length row.now) p.new (plus (taken 0 row.now) p.old) }
+    ensures q_added { K ≡ 2 → Starts (length row.now) q.new (twice_plus (taken 0 row.now) q.old) }
 {
-    let mut j: usize = 0;
-    while j < w {
-        let v = src[at + j];
-        p[j] = v;
-        q[j] = v;
-        j += 1;
+    for (j, v) in row.iter().enumerate() {
+        p[j] ^= v;
+        if K == 2 {
+            q[j] = field::twice(q[j]) ^ v;
+        }
     }
 }
 
-// Adds the w bytes of src from at on to p, and to twice q.
-fn next_row(src: &[u8], at: usize, p: &mut [u8], q: &mut [u8], w: usize)
-    requires w_in_bounds { at + w ≤ length src.now }
-    requires w_in_bounds_2 { w ≤ length p.old }
-    requires w_in_bounds_3 { w ≤ length q.old }
-    ensures starts { Starts w p.new (plus (taken at src.now) p.old) }
-    ensures starts_2 { Starts w q.new (twice_plus (taken at src.now) q.old) }
+// Stores the row from at on.
+fn put_row(array: &mut [u8], at: usize, row: &[u8])
+    requires { at + length row.now ≤ length array.old }
+    ensures { PutRow at (length row.now) row.now array.old array.new }
 {
-    let mut j: usize = 0;
-    while j < w {
-        let v = src[at + j];
-        p[j] = p[j] ^ v;
-        q[j] = field::twice(q[j]) ^ v;
-        j += 1;
-    }
-}
-
-// Stores the first w bytes of row from at on.
-fn put_row(array: &mut [u8], at: usize, row: &[u8], w: usize)
-    requires w_in_bounds { at + w ≤ length array.old }
-    requires w_in_bounds_2 { w ≤ length row.now }
-    ensures { PutRow at w row.now array.old array.new }
-{
-    let mut j: usize = 0;
-    while j < w {
-        array[at + j] = row[j];
-        j += 1;
-    }
+    array[at..at + row.len()].copy_from_slice(row);
 }

@@ -1,6 +1,7 @@
 //! Edits: what a file edits/CRATE/LABEL.edit says, and how it is applied to a copy of the crate.
 //!
-//! The form is that of rt's must-fail edits, with one line more, `at: PLACE`, for what must refuse the edit.
+//! The form is that of rt's must-fail edits, with one line more, `at: PLACE`, for what must refuse the edit. An edit that changes the
+//! shape of a function's code has replacements in the folder of its proof too, and so brings along a proof that speaks of its own code.
 
 use std::collections::BTreeMap;
 use std::fs;
@@ -44,17 +45,29 @@ impl Edit {
         self.pairs.iter().any(|[file, ..]| file.starts_with("src/"))
     }
 
-    /// Whether the edit changes the program, and no definition.
+    /// Whether the edit brings along the proof of its place.
+    pub fn brings_proof(&self) -> bool {
+        self.pairs.iter().any(|[file, ..]| self.is_own_proof(file))
+    }
+
+    /// Whether the edit changes the program and the proof of its place at most, and no definition.
     fn changes_code_alone(&self) -> bool {
-        self.pairs.iter().all(|[file, ..]| file.starts_with("src/"))
+        self.pairs.iter().all(|[file, ..]| file.starts_with("src/") || self.is_own_proof(file))
+    }
+
+    /// Whether a file stands in the folder of the place's proof.
+    fn is_own_proof(&self, file: &str) -> bool {
+        let folder = format!("proofs/{}/", self.at.replace("::", "/"));
+        file.strip_prefix(folder.as_str()).is_some_and(|name| !name.contains('/'))
     }
 
     /// Applies the edit to a crate's folder, and hands back the texts that were there; where it does not fit, nothing is changed.
     pub fn apply(&self, folder: &Path) -> Result<Texts, String> {
         let (mut before, mut after) = (Texts::new(), Texts::new());
         for [file, old, new] in &self.pairs {
-            if !(file.starts_with("src/") || file.starts_with("specs/")) || file.contains("..") {
-                return Err(format!("`{file}` is no file under src/ or specs/"));
+            let is_its = file.starts_with("src/") || file.starts_with("specs/") || self.is_own_proof(file);
+            if !is_its || file.contains("..") {
+                return Err(format!("`{file}` is no file under src/ or specs/, and none of the proof of {}", self.at));
             }
             let path = folder.join(file);
             if !before.contains_key(&path) {
@@ -138,4 +151,24 @@ fn entries(folder: &Path) -> Result<Vec<PathBuf>, String> {
     let mut paths: Vec<PathBuf> = listed.flatten().map(|entry| entry.path()).collect();
     paths.sort();
     Ok(paths)
+}
+
+#[cfg(test)]
+mod tests {
+    use super::*;
+
+    #[test]
+    fn proofs_that_are_brought() {
+        let edit = |file: &str| {
+            let text =
+                format!("at: status::check\nfile: src/status.rt\nold: a\nnew: b\nfile: {file}\nold: c\nnew: d\n");
+            Edit::read("shelf", "label", &text).unwrap()
+        };
+        let own = edit("proofs/status/check/Answers.antt");
+        assert!(own.brings_proof() && own.changes_code_alone());
+        for file in ["proofs/status/check_input/Answers.antt", "proofs/status/check/Laws/Own.antt", "specs/Lent.antt"] {
+            assert!(!edit(file).brings_proof() && !edit(file).changes_code_alone());
+        }
+        assert!(edit("proofs/lent/Laws.antt").apply(Path::new("none")).is_err());
+    }
 }

@@ -11,6 +11,10 @@
 //! All else in the named proof is a failed fact, in whatever words: two types that differ, a fact of another sort than the proof uses, or
 //! a `search`, `omega` or `simp` that finds nothing. A goal that `search` does not prove is a failed fact where the function has no
 //! answer that misses its goal: such an answer could be the one that is wanted.
+//!
+//! An edit that changes the shape of the code must bring the proof along, by replacements in the folder of its place: the proof of the
+//! code as it stands speaks of other places. A proof that is brought must be well formed and fit all over: any misfit in it, and any error
+//! that names no goal, is a fault, even beside a failed fact.
 
 /// What is to be said of a wrong program.
 #[derive(Clone, Debug, PartialEq)]
@@ -23,10 +27,23 @@ pub enum Verdict {
     Fault(String),
 }
 
-/// What must refuse an edit: a function or a file of laws, and the folder or the file that proves it, if it has one.
+/// What must refuse an edit: a function or a file of laws, the folder or the file that proves it, if it has one, and how that proof
+/// comes to fit the edited code.
 pub struct Place<'a> {
     pub at: &'a str,
     pub proof: Option<String>,
+    pub fit: Fit,
+}
+
+/// How the proof of a place comes to fit the code that an edit leaves.
+#[derive(Clone, Copy, Debug, PartialEq)]
+pub enum Fit {
+    /// The code has the same shape, and the names in the proof are made those of the edited code.
+    Renamed,
+    /// The edit brings the proof along.
+    Brought,
+    /// The code has another shape, and the edit brings no proof.
+    Missing,
 }
 
 /// What a log has to say.
@@ -66,10 +83,16 @@ pub fn judge(log: &str, crate_name: &str, own: &Place, all: &[Place]) -> Verdict
         return Verdict::Fault(format!("the first error is not at {}", own.at));
     }
     let (misfits, facts): (Vec<_>, Vec<_>) =
-        errors.filter(|(file, _)| own.has(file)).partition(|(_, error)| is_misfit(error));
+        errors.filter(|(file, _)| own.has(file)).partition(|(_, error)| is_misfit(error, own.fit));
     let function = format!("{crate_name}::{}", own.at);
     let mut open = said.open.iter().filter(|(name, _)| *name == function);
     match (facts.first(), misfits.first(), open.next()) {
+        (_, Some(_), _) if own.fit == Fit::Brought => {
+            Verdict::Fault("the proof that it brings does not fit".to_string())
+        }
+        (Some(_), ..) | (_, None, Some(_)) if own.fit == Fit::Missing => {
+            Verdict::Fault("it changes the shape of the code, and brings no proof".to_string())
+        }
         (Some((_, fact)), ..) => Verdict::Refused(head(fact)),
         (None, Some(_), _) => Verdict::Fault("the proof does not fit the code".to_string()),
         (None, None, Some((_, goal))) => Verdict::Refused(head(goal)),
@@ -118,9 +141,11 @@ fn follows(error: &str) -> bool {
     depends.iter().any(|words| error.contains(words)) || error.contains("was not admitted")
 }
 
-/// Whether an error says that the proof does not fit the code, and not that a fact fails.
-fn is_misfit(error: &str) -> bool {
-    MISFITS.iter().any(|words| error.contains(words))
+/// Whether an error says that the proof does not fit the code, and not that a fact fails. In a proof that an edit brings, an error that
+/// names no goal is one of the proof's own form.
+fn is_misfit(error: &str, fit: Fit) -> bool {
+    let names_none = !error.contains(": error: `");
+    MISFITS.iter().any(|words| error.contains(words)) || (fit == Fit::Brought && names_none)
 }
 
 /// The start of an error or of what is said of a goal, from its place in the crate on.
@@ -151,7 +176,7 @@ mod tests {
 
     /// A place.
     fn place<'a>(at: &'a str, proof: Option<&str>) -> Place<'a> {
-        Place { at, proof: proof.map(String::from) }
+        Place { at, proof: proof.map(String::from), fit: Fit::Renamed }
     }
 
     #[test]
@@ -179,6 +204,25 @@ mod tests {
         ] {
             assert!(matches!(judged(error, NOT), Verdict::Fault(_)), "{error}");
         }
+    }
+
+    #[test]
+    fn edits_that_change_the_shape() {
+        let fact = format!("./{FILE}:45:5: error: `returns`: two types differ\n");
+        let misfit = format!("./{FILE}:9:5: error: `b`: `goal.b`: `Goals` has no `b` that can be named from here\n");
+        let open = "note: src/status.rt:10:1: it is not proved that what the function ensures holds (`returns`)\n\
+            fn shelf::status::read_rows: `search` did not prove `returns`\n";
+        let refused = |fit, said: &[&str]| {
+            let own = Place { fit, ..place("status::read_rows", Some(FOLDER)) };
+            matches!(alone(&[&said.concat(), NOT].concat(), &own), Verdict::Refused(_))
+        };
+        for fact in [fact.as_str(), open] {
+            assert!(refused(Fit::Brought, &[fact]) && refused(Fit::Renamed, &[fact]));
+            assert!(!refused(Fit::Missing, &[fact]) && !refused(Fit::Brought, &[&misfit, fact]));
+        }
+        assert!(refused(Fit::Renamed, &[&misfit, &fact]) && !refused(Fit::Brought, &[&misfit]));
+        let form = format!("./{FILE}:9:5: error: this line was read as a continuation of the declaration above\n");
+        assert!(!refused(Fit::Brought, &[&form]) && !refused(Fit::Brought, &[&form, &fact]));
     }
 
     #[test]

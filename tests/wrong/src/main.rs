@@ -12,7 +12,7 @@ mod propose;
 
 use copy::Copy;
 use edit::{Edit, Texts};
-use judge::{Place, Verdict};
+use judge::{Fit, Place, Verdict};
 use names::Listed;
 use std::collections::BTreeMap;
 use std::path::Path;
@@ -127,23 +127,29 @@ fn try_edits<'a>(copy: &Copy, edits: &[&'a Edit], unchanged: &Unchanged) -> Vec<
     edits.iter().zip(verdicts).map(|(edit, verdict)| (*edit, verdict, seconds)).collect()
 }
 
-/// Judges a crate as edits have left it, each edit by what rt says of its place. Proofs are renamed to fit the code first, and their
-/// texts put to those that are to be written back.
-fn judge_applied(copy: &Copy, edits: &[&Edit], listed: &Listed, before: &mut Texts) -> Result<Vec<Verdict>, String> {
+/// Judges a crate as edits have left it, each edit by what rt says of its place. Proofs that no edit brings are renamed to fit the code
+/// first, and their texts put to those that are to be written back.
+fn judge_applied<'a>(
+    copy: &Copy,
+    edits: &[&'a Edit],
+    listed: &Listed,
+    before: &mut Texts,
+) -> Result<Vec<Verdict>, String> {
     let name = &edits[0].crate_name;
-    let places: Vec<Place> =
-        edits.iter().map(|edit| Place { at: &edit.at, proof: copy.proof_of(name, &edit.at) }).collect();
-    let mut fits = vec![true; edits.len()];
+    let fit_of = |edit: &Edit| if edit.brings_proof() { Fit::Brought } else { Fit::Renamed };
+    let place = |edit: &&'a Edit| Place { at: &edit.at, proof: copy.proof_of(name, &edit.at), fit: fit_of(edit) };
+    let mut places: Vec<Place> = edits.iter().map(place).collect();
     if edits.iter().any(|edit| edit.changes_code()) {
         let edited = copy.names(name)?;
-        for (fits, place) in fits.iter_mut().zip(&places) {
-            *fits = fit(copy, name, place, listed, &edited, before)?;
+        for place in places.iter_mut().filter(|place| place.fit == Fit::Renamed) {
+            if !fit(copy, name, place, listed, &edited, before)? {
+                place.fit = Fit::Missing;
+            }
         }
     }
     let log = copy.check(name)?;
-    let verdicts = fits.iter().zip(&places).map(|(fits, place)| match judge::judge(&log, name, place, &places) {
+    let verdicts = places.iter().map(|place| match judge::judge(&log, name, place, &places) {
         Verdict::Fault(reason) => Verdict::Fault(format!("{reason}:\n{}", copy::start_of(&log).trim_end())),
-        Verdict::Refused(_) if !fits => Verdict::Fault("it changes the shape of the code".to_string()),
         verdict => verdict,
     });
     Ok(verdicts.collect())

@@ -1,41 +1,30 @@
--- `field::fill_multiples` meets its contract. The loop's invariant: each entry passed is c times its index, and the others are as they were.
+-- `field::fill_multiples` meets its contract. The loop's invariant: each entry passed is c times its index.
 -- Assumes nothing.
-use mathlib.Core.List.{List}
-use mathlib.Core.Path.{subst, ◌∙◌, ◌≡◌}
-use Prim.Native.Nat.{◌+◌, ℕ, ◌<◌}
-use native.Mathlib.Nat.{lt_irrefl}
+use mathlib.Core.List.{List, ◌++◌}
+use mathlib.Core.Path.{◌≡◌, ap, ◌∙◌}
+use Prim.Native.Nat.{ℕ, ◌+◌, ◌-◌, ◌≤◌, ◌<◌}
 use native.Mathlib.Omega.{arith}
-use lib.ListN.{set, length-set, length, get_or}
-use lib.Seq.{get_or-set_same, get_or-set_other}
-use borrow.Author.Count.{below_more}
-use Rattle.field.specs.Field.{times}
-use Rattle.field.proofs.TableRules.{powers, logarithms, powers_hold, logarithms_hold}
+use lib.ListN.{length, get_or, drop}
+use Rattle.std.proofs.lemmas.List.{length-take-le, get_or_append_left, get_or-append_right, get_or-drop}
 use Rattle.field.proofs.fill_multiples.Goals as goal
 
--- a turn: entry k is stored, and the entries before it stay
-fill_step : (t : List ℕ) (k v : ℕ) (f : ℕ → ℕ) → k < length t → ((i : ℕ) → i < k → get_or t i 0 ≡ f i) → v ≡ f k
-    → (i : ℕ) → i < k + 1 → get_or (set t k v) i 0 ≡ f i
-fill_step t k v f h all e =
-    below_more (λ (i : ℕ). get_or (set t k v) i 0 ≡ f i) k
-    (λ i p. get_or-set_other t k i v 0 (λ q. lt_irrefl k (subst (λ (n : ℕ). n < k) q p)) ∙ all i p)
-    (get_or-set_same t k v 0 h ∙ e)
+-- the first 256 entries are those of the list xs, and the others are as they were
+filled : (xs t : List ℕ) (f : ℕ → ℕ) → length xs ≡ 256 → ((i : ℕ) → i < 256 → get_or xs i 0 ≡ f i)
+    → (k : ℕ) → k < 256 → get_or (xs ++ drop 256 t) k 0 ≡ f k
+filled xs t f e all k h = get_or_append_left xs (drop 256 t) 0 k (omega arith) ∙ all k h
 
-pub product-requires-clause-powers : goal.product-requires-clause-powers
-unfolding powers logarithms
-product-requires-clause-powers c = powers_hold
-
-pub product-requires-clause-logarithms : goal.product-requires-clause-logarithms
-unfolding powers logarithms
-product-requires-clause-logarithms c = logarithms_hold
-
-pub loop-k-preserved : goal.loop-k-preserved
-loop-k-preserved c =
-    let at-loop = c.loop-k in
-    let low : at-loop.k < length at-loop.t = omega arith in
-    (omega arith, (simp length-set (omega arith), (fill_step at-loop.t at-loop.k _ (times c.args.c) low at-loop.invariant.1.1.0 c.product.ensures, λ i p. get_or-set_other at-loop.t at-loop.k i _ 0 (omega arith) ∙ at-loop.invariant.1.1.1 i (omega arith))))
+rest : (xs t : List ℕ) → length xs ≡ 256 → (k : ℕ) → 256 ≤ k → get_or (xs ++ drop 256 t) k 0 ≡ get_or t k 0
+rest xs t e k h =
+    get_or-append_right xs (drop 256 t) 256 k 0 e h ∙ get_or-drop 256 t (k - 256) 0 ∙ ap (λ (i : ℕ). get_or t i 0) (let back : 256 + (k - 256) ≡ k = omega arith in back)
 
 pub returns-clause-multiples : goal.returns-clause-multiples
-returns-clause-multiples c = λ k h. c.loop-k.invariant.1.1.0 k (omega arith)
+returns-clause-multiples c =
+    let at-loop = c.loop-k in
+    let long : length at-loop.entry-items ≡ 256 = at-loop.auto.entry-items ∙ length-take-le 256 c.args.t.now c.requires in
+    filled at-loop.entry-items c.args.t.now _ long (λ i h. at-loop.invariant i (omega (arith, c.loop-k-test.false, at-loop.auto.entry-items, long)))
 
 pub returns-clause-same_from : goal.returns-clause-same_from
-returns-clause-same_from c = λ k h. c.loop-k.invariant.1.1.1 k (omega arith)
+returns-clause-same_from c =
+    let at-loop = c.loop-k in
+    let long : length at-loop.entry-items ≡ 256 = at-loop.auto.entry-items ∙ length-take-le 256 c.args.t.now c.requires in
+    rest at-loop.entry-items c.args.t.now long

@@ -5,15 +5,11 @@ use Prim.Native.Nat.{◌-◌, ◌≤◌}
 use native.Mathlib.Omega.{arith}
 use Rattle.field.specs.Field.{inverse}
 use Rattle.field.proofs.ProductLaws.{inverse-pow, inverse_zero}
-use Rattle.field.proofs.TableRules.{powers, logarithms, powers_hold, logarithms_hold}
+use Rattle.field.proofs.TableRules.{powers, powers_hold}
 use Rattle.field.proofs.inv.Goals as goal
 
 pub returns-then-a-eq0 : goal.returns-then-a-eq0
 returns-then-a-eq0 c = sym (ap inverse c.if-a-eq0.true ∙ inverse_zero)
-
-pub logarithm-requires-clause-logarithms : goal.logarithm-requires-clause-logarithms
-unfolding logarithms
-logarithm-requires-clause-logarithms c = logarithms_hold
 
 pub returns : goal.returns
 unfolding powers

@@ -1,18 +1,14 @@
--- `probe::bad_shape` meets its contract: a test after the other.
+-- `probe::bad_shape` meets its contract.
 -- Assumes nothing.
-use mathlib.Core.Path.{sym, ◌∙◌}
-use borrow.Author.Tests.{lt-ltb, le-ltb}
+use Rattle.std.proofs.Common.{arith}
+use Rattle.std.proofs.lemmas.Grind.{common_steps}
 use Rattle.probe.specs.Probe.{bad_shape}
 use Rattle.probe.proofs.bad_shape.Goals as goal
 
 pub returns-then-bad_measures : goal.returns-then-bad_measures
 unfolding bad_shape
-returns-then-bad_measures c = simp (sym c.bad_measures.ensures ∙ c.if-bad_measures.true)
+returns-then-bad_measures c = grind (arith, common_steps)
 
-pub returns-then-s-lt1 : goal.returns-then-s-lt1
+pub returns-else-bad_measures : goal.returns-else-bad_measures
 unfolding bad_shape
-returns-then-s-lt1 c = simp (sym c.bad_measures.ensures ∙ c.if-bad_measures.false, lt-ltb _ _ c.if-s-lt1.true)
-
-pub returns : goal.returns
-unfolding bad_shape
-returns c = simp (sym c.bad_measures.ensures ∙ c.if-bad_measures.false, le-ltb _ _ c.if-s-lt1.false)
+returns-else-bad_measures c = grind (arith, common_steps)

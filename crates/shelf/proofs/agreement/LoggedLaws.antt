@@ -2,7 +2,8 @@
 -- Assumes nothing.
 use mathlib.Core.Bool.{Bool, true, false, not, ◌&&◌, ◌||◌}
 use mathlib.Core.List.{List}
-use mathlib.Core.Option.{Option, none, some, some-injective}
+use Rattle.std.specs.Prelude.{Option, None as none, Some as some}
+use Rattle.std.proofs.lemmas.Option.{same_Some}
 use mathlib.Core.Path.{◌≡◌, refl, sym, ap, ap₂, ◌∙◌}
 use Prim.Native.Nat.{ℕ, ◌+◌, ◌≤◌, ◌<◌}
 use native.Mathlib.Decide.{dec_lt, ℕ_discrete}
@@ -187,7 +188,7 @@ module _ (g : Geometry) (s : State) (t : ℕ) (w : ℕ → Bool) (v : ℕ → Li
   ori_cases i r hi e new old =
       cases (pr i)
       (λ y.
-      let q : s.log.next + count i pr ≡ r = some-injective _ r (sym (append-noted pr (s.disk t) before g.d i hi y) ∙ e) in
+      let q : s.log.next + count i pr ≡ r = same_Some _ r (sym (append-noted pr (s.disk t) before g.d i hi y) ∙ e) in
       let k = ori_appended-kept (s.log.next + count i pr) (append-below pr (s.disk t) before g.d i hi y) in
       new y (
         omega (arith, k.0, q),
@@ -202,7 +203,7 @@ module _ (g : Geometry) (s : State) (t : ℕ) (w : ℕ → Bool) (v : ℕ → Li
   cur_cases i r hi e new old =
       cases (w i)
       (λ y.
-      let q : (ori_appended g s t w).next + count i w ≡ r = some-injective _ r (sym (append-noted w v between g.d i hi y) ∙ e) in
+      let q : (ori_appended g s t w).next + count i w ≡ r = same_Some _ r (sym (append-noted w v between g.d i hi y) ∙ e) in
       new y (
         omega (arith, append-below w v between g.d i hi y, q),
         ap (cur_appended g s t w v).value (sym q) ∙ append-value w v between g.d i hi y,

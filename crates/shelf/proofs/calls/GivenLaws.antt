@@ -3,35 +3,36 @@
 use mathlib.Core.Bool.{Bool, true, false, ◌||◌}
 use mathlib.Core.List.{List, ◌++◌}
 use mathlib.Core.Logic.{◌≢◌}
-use mathlib.Core.Option.{Option}
+use Rattle.std.specs.Prelude.{Option, None, Some}
+use Rattle.std.specs.Option.{option_or}
+use Rattle.std.proofs.lemmas.Option.{none-some, same_Some}
 use mathlib.Core.Path.{◌≡◌, refl, sym, ap, ap₂, ◌∙◌, subst}
 use Prim.Native.Nat.{ℕ, zero, suc, ◌+◌, ◌-◌, ◌*◌, ◌≤◌, ◌<◌}
-use native.Mathlib.Nat.{mul-le-mul_right, suc-mul}
+use native.Mathlib.Nat.{mul-le-mul_right}
 use native.Mathlib.Decide.{ℕ_discrete}
 use native.Mathlib.Omega.{arith}
-use lib.Dec.{eqb, ltb}
+use lib.Dec.{ltb}
 use lib.ListN.{length, get_or}
-use borrow.Author.Tests.{lt-ltb, le-ltb, eq-eqb, ne_eqb, ltb-true, ltb-false, eqb-true}
+use borrow.Author.Tests.{lt-ltb, le-ltb, ne_eqb, ltb-true, ltb-false}
 use Rattle.stripe.specs.Blocks.{gen, block, put, byte_of}
 use Rattle.stripe.specs.Parity.{Recoverable, solved}
 use Rattle.stripe.specs.Places.{numbered, column_at, by_column}
 use Rattle.stripe.specs.below.Tables.{Tabled, Held}
-use Rattle.stripe.specs.below.Steps.{Gathers}
-use Rattle.stripe.proofs.Laws.{place_lt, array_byte, log_byte, solved_ignores, fits, length-block, get_or-block, block-whole, length-gen, gen_ext, block-put-same, block-put_other, length-put}
-use Rattle.shelf.specs.Counting.{choose}
+use Rattle.stripe.proofs.Laws.{place_lt, array_byte, log_byte, solved_ignores, fits, length-block, get_or-block, length-gen, gen_ext, block-put-same, block-put_other, length-put}
 use Rattle.shelf.specs.Members.{array_members, member_at, place_at, wanted, address_of, column, other_missing, worked_back}
 use Rattle.shelf.specs.Calls.{or_else, original, block_at}
 use Rattle.shelf.specs.Words.{words}
 use Rattle.shelf.specs.HashList.{none_word, said, is_record}
-use Rattle.shelf.specs.Lent.{Lent, lent, record_at, state_of, ori_by, flag_at, array_block, array_length, buffer_of}
-use Rattle.shelf.specs.below.Reading.{Ready, latest, original_place, missing_by, solved_block, lost_block, served_block, served_to}
+use Rattle.shelf.specs.Lent.{Lent, lent, record_at, state_of, ori_by, cur_by, flag_at, array_block, array_length, buffer_of}
+use Rattle.shelf.specs.below.Reading.{Ready, latest_by, original_place, missing_by, solved_block, lost_block, served_block, served_to}
 use Rattle.shelf.specs.declared.record.Geometry.{Geometry}
 use Rattle.shelf.specs.declared.record.Shelf.{Shelf}
-use Rattle.shelf.proofs.general.TestLaws.{cases, clash, choose_true, choose_false}
+use Rattle.shelf.proofs.agreement.ListedLaws.{opt_cases}
+use Rattle.shelf.proofs.general.TestLaws.{cases, choose_true, choose_false}
 use Rattle.shelf.proofs.general.AddressLaws.{spot_is, spot_within}
 use Rattle.shelf.proofs.hashlist.ListMeaning.{said_ori, said_cur}
 use Rattle.shelf.proofs.lent.LayoutLaws.{by_role, blocks_of-back}
-use Rattle.shelf.proofs.calls.ServedLaws.{record_some, record_none, number_log, number_array}
+use Rattle.shelf.proofs.calls.ServedLaws.{record_some, record_none, record_is, number_log, number_array}
 
 -- ---- words that are records
 
@@ -40,29 +41,25 @@ unfolding is_record
 record_low v next t n = ltb-true v next (sym (ap (λ (z : Bool). z || ltb v next) (ne_eqb v none_word n)) ∙ t)
 
 -- Cur, else Ori, else something else
-module _ (c o : ℕ) (f : ℕ → List ℕ) (z : List ℕ) (v : ℕ) (e : v ≡ choose (eqb c none_word) o c) where
-  pub cur_or_ori : v ≢ none_word → f v ≡ or_else (record_at c) f (or_else (record_at o) f z)
-  cur_or_ori n =
-      cases (eqb c none_word)
-      (λ t. let is : v ≡ o = e ∙ choose_true (eqb c none_word) o c t in
-      ap f is ∙ sym (ap (λ (k : Option ℕ). or_else k f (or_else (record_at o) f z)) (record_none c (eqb-true c none_word t))
-      ∙ ap (λ (k : Option ℕ). or_else k f z) (record_some o (λ q. n (is ∙ q)))))
-      (λ t. let is : v ≡ c = e ∙ choose_false (eqb c none_word) o c t in
-      ap f is ∙ sym (ap (λ (k : Option ℕ). or_else k f (or_else (record_at o) f z)) (record_some c (λ q. n (is ∙ q)))))
+module _ (f : ℕ → List ℕ) (z : List ℕ) where
+  pub cur_or_ori : (c o : Option ℕ) (r : ℕ) → option_or c o ≡ Some r → f r ≡ or_else c f (or_else o f z)
+  cur_or_ori (Some k) o r e = ap f (sym (same_Some k r e))
+  cur_or_ori None o r e = sym (ap (λ (k : Option ℕ). or_else k f z) e)
 
-  pub no_record : v ≡ none_word → z ≡ or_else (record_at c) f (or_else (record_at o) f z)
-  no_record n =
-      cases (eqb c none_word)
-      (λ t. let is : v ≡ o = e ∙ choose_true (eqb c none_word) o c t in
-      sym (ap (λ (k : Option ℕ). or_else k f (or_else (record_at o) f z)) (record_none c (eqb-true c none_word t))
-      ∙ ap (λ (k : Option ℕ). or_else k f z) (record_none o (sym is ∙ n))))
-      (λ t. let is : v ≡ c = e ∙ choose_false (eqb c none_word) o c t in clash (eq-eqb c none_word (sym is ∙ n)) t)
+  pub no_record : (c o : Option ℕ) → option_or c o ≡ None → z ≡ or_else c f (or_else o f z)
+  no_record (Some k) o e = absurd (none-some k (sym e))
+  no_record None o e = sym (ap (λ (k : Option ℕ). or_else k f z) e)
 
-  pub low_record : (next : ℕ) → is_record c next ≡ true → is_record o next ≡ true → v ≢ none_word → v < next
-  low_record next p q n =
-      cases (eqb c none_word)
-      (λ t. record_low v next (subst (λ (k : ℕ). is_record k next ≡ true) (sym (e ∙ choose_true (eqb c none_word) o c t)) q) n)
-      (λ t. record_low v next (subst (λ (k : ℕ). is_record k next ≡ true) (sym (e ∙ choose_false (eqb c none_word) o c t)) p) n)
+-- a record that is one of two words
+low_record : (c o next r : ℕ) → is_record c next ≡ true → is_record o next ≡ true → option_or (record_at c) (record_at o) ≡ Some r → r < next
+low_record c o next r p q e =
+    elim (ℕ_discrete c none_word) [
+      | yes n ↦ of o q (ap (λ (k : Option ℕ). option_or k (record_at o)) (sym (record_none c n)) ∙ e)
+      | no n ↦ of c p (record_some c n ∙ ap (λ (k : Option ℕ). option_or k (record_at o)) (sym (record_some c n)) ∙ e)
+    ]
+  where
+    of : (v : ℕ) → is_record v next ≡ true → record_at v ≡ Some r → r < next
+    of v t u = let is = record_is v r u in omega (arith, is.0, record_low v next t is.1)
 
 -- a block of the array lies within it
 pub place_room : (g : Geometry) (a : List ℕ) → length a ≡ array_length g → (x i k : ℕ) → x < g.s → i < array_members g → k ≡ place_at g x i → k * g.b + g.b ≤ length a
@@ -112,16 +109,6 @@ module _ (r : Shelf) (a n l : List ℕ) (R : Ready (lent r a n l)) (x : ℕ) (hx
             subst (λ (k : ℕ). k < (r.geometry.d + r.geometry.parities) * r.geometry.s + r.geometry.l) (sym (tab i (omega arith))) (number_low i (omega arith)) in
             let m = mul-le-mul_right r.geometry.b low in
             omega (arith, m, R.array, R.log);
-      }
-
-  pub gathers : (ns work : List ℕ) → r.geometry.d + r.geometry.parities ≤ length ns → Tabled (r.geometry.d + r.geometry.parities) (original_place r.geometry l x) ns
-      → length work ≡ r.geometry.b → Gathers r.geometry.d ((r.geometry.d + r.geometry.parities) * r.geometry.s) r.geometry.b a n ns work
-  gathers ns work long tab len =
-      record {
-        data_most = R.listing.range.d_most;
-        whole = R.array;
-        held = held_all ns long tab (r.geometry.d + 1) (omega (arith, R.listing.range.parities_least));
-        working = len;
       }
 
   -- an original that is not in the log is the array's block
@@ -190,31 +177,28 @@ module _ (r : Shelf) (a n l : List ℕ) (R : Ready (lent r a n l)) (x : ℕ) (hx
     unfolding block_at state_of
     given_sound t = sym (choose_false (flag_at r (member_at r.geometry x i)) _ _ t)
 
-    module _ (t : flag_at r (member_at r.geometry x i) ≡ true) (v : ℕ) (e : v ≡ latest (words l) r.geometry (address_of r.geometry x i)) where
-      pub given_log : v ≢ none_word → block r.geometry.b v n ≡ served_block (lent r a n l) x i
-      unfolding block_at state_of latest
-      given_log u =
-          let w = said (words l) r.geometry (address_of r.geometry x i) in
-          cur_or_ori w.cur w.ori (λ k. block r.geometry.b k n) (lost_block (lent r a n l) x i) v e u
+    module _ (t : flag_at r (member_at r.geometry x i) ≡ true) where
+      pub given_log : (k : ℕ) → latest_by r.geometry l x i ≡ Some k → block r.geometry.b k n ≡ served_block (lent r a n l) x i
+      unfolding block_at state_of
+      given_log k e =
+          cur_or_ori (λ j. block r.geometry.b j n) (lost_block (lent r a n l) x i) (cur_by r.geometry l x i) (ori_by r.geometry l x i) k e
           ∙ sym (choose_true (flag_at r (member_at r.geometry x i)) _ _ t)
 
-      pub given_lost : v ≡ none_word → lost_block (lent r a n l) x i ≡ served_block (lent r a n l) x i
-      unfolding block_at state_of latest
-      given_lost u =
-          let w = said (words l) r.geometry (address_of r.geometry x i) in
-          no_record w.cur w.ori (λ k. block r.geometry.b k n) (lost_block (lent r a n l) x i) v e u
+      pub given_lost : latest_by r.geometry l x i ≡ None → lost_block (lent r a n l) x i ≡ served_block (lent r a n l) x i
+      unfolding block_at state_of
+      given_lost e =
+          no_record (λ j. block r.geometry.b j n) (lost_block (lent r a n l) x i) (cur_by r.geometry l x i) (ori_by r.geometry l x i) e
           ∙ sym (choose_true (flag_at r (member_at r.geometry x i)) _ _ t)
 
-    pub latest-low : (v : ℕ) → v ≡ latest (words l) r.geometry (address_of r.geometry x i) → v ≢ none_word → v * r.geometry.b + r.geometry.b ≤ length n
-    unfolding latest
-    latest-low v e u =
+    pub latest-low : (k : ℕ) → latest_by r.geometry l x i ≡ Some k → k * r.geometry.b + r.geometry.b ≤ length n
+    latest-low k e =
         let Y = R.listing.range in
         let w = said (words l) r.geometry (address_of r.geometry x i) in
-        let low : v < r.next =
-        low_record w.cur w.ori (λ k. n) n v e r.next
+        let low : k < r.next =
+        low_record w.cur w.ori r.next k
         (said_cur (words l) r.geometry r.next r.listed (omega (arith, Y.h_least)) (omega (arith, Y.d_least)) Y.e_most R.listing.valid (address_of r.geometry x i))
-        (said_ori (words l) r.geometry r.next r.listed (omega (arith, Y.h_least)) (omega (arith, Y.d_least)) Y.e_most R.listing.valid (address_of r.geometry x i)) u in
-        fits v r.geometry.l r.geometry.b n R.log (omega (arith, low, R.listing.room))
+        (said_ori (words l) r.geometry r.next r.listed (omega (arith, Y.h_least)) (omega (arith, Y.d_least)) Y.e_most R.listing.valid (address_of r.geometry x i)) e in
+        fits k r.geometry.l r.geometry.b n R.log (omega (arith, low, R.listing.room))
 
     pub lost_length : length (lost_block (lent r a n l) x i) ≡ r.geometry.b
     unfolding worked_back
@@ -223,21 +207,15 @@ module _ (r : Shelf) (a n l : List ℕ) (R : Ready (lent r a n l)) (x : ℕ) (hx
     pub given_length : i < r.geometry.d → length (served_block (lent r a n l) x i) ≡ r.geometry.b
     given_length h =
         cases (flag_at r (member_at r.geometry x i))
-        (λ t. elim (ℕ_discrete (latest (words l) r.geometry (address_of r.geometry x i)) none_word) [
-          | yes q ↦ ap length (sym (given_lost t (latest (words l) r.geometry (address_of r.geometry x i)) refl q)) ∙ lost_length
-          | no q ↦ ap length (sym (given_log t (latest (words l) r.geometry (address_of r.geometry x i)) refl q))
-              ∙ length-block r.geometry.b (latest (words l) r.geometry (address_of r.geometry x i)) n (latest-low (latest (words l) r.geometry (address_of r.geometry x i)) refl q)
-        ])
+        (λ t. opt_cases (latest_by r.geometry l x i)
+        (λ q. ap length (sym (given_lost t q)) ∙ lost_length)
+        (λ k q. ap length (sym (given_log t k q)) ∙ length-block r.geometry.b k n (latest-low k q)))
         (λ t. ap length (sym (given_sound t)) ∙ length-block r.geometry.b (place_at r.geometry x i) a (place_room r.geometry a R.array x i (place_at r.geometry x i) hx (omega arith) refl))
 
 -- ---- a block put into the caller's buffer, by what it is
 
 pub put_as : (b j : ℕ) (out v w o : List ℕ) → o ≡ put b j v out → v ≡ w → o ≡ put b j w out
 put_as b j out v w o e q = e ∙ ap (λ (z : List ℕ). put b j z out) q
-
--- out of a working block
-pub put_worked : (b j : ℕ) (out u v o : List ℕ) → o ≡ put b j (block b 0 u) out → u ≡ v → length v ≡ b → o ≡ put b j v out
-put_worked b j out u v o e q size = put_as b j out (block b 0 u) v o e (block-whole b u (ap length q ∙ size) ∙ q)
 
 -- ---- a buffer filled with blocks, one after another
 
@@ -288,9 +266,6 @@ module _ (g : Geometry) (f : ℕ → ℕ → List ℕ) (a n : ℕ) where
     pub walk_stripe : a + n ≤ g.d * g.s → x < g.s
     walk_stripe room = spot_within (a + j) g.d g.s x i (omega (arith, W.index)) W.spot (omega (arith, room, h))
 
-    pub walk_room : j * g.b + g.b ≤ length out
-    walk_room = fits j n g.b out W.size h
-
     pub walk_turn : (o : List ℕ) (y k : ℕ) → length (f x i) ≡ g.b → o ≡ put g.b j (f x i) out → y * g.d + k ≡ x * g.d + i + 1 → k < g.d
         → Walked g f a n (j + 1) y k o
     walk_turn o y k size e next low =
@@ -301,6 +276,8 @@ module _ (g : Geometry) (f : ℕ → ℕ → List ℕ) (a n : ℕ) where
 
   pub walk_end : (j x i : ℕ) (out : List ℕ) → Walked g f a n j x i out → j ≡ n → out ≡ buffer_of g f a n
   walk_end j x i out W e = filled_all g f a n j out W.size W.filled e
+
+pub ruleset walks = (walk_start, walk_stripe)
 
 -- ---- the blocks of a stripe put in, one after another
 
@@ -315,10 +292,6 @@ module _ (h : Lent) (x i j : ℕ) where
   served_more k out v o e q =
       let z : suc k ≡ k + 1 = omega arith in
       q ∙ ap (λ (y : List ℕ). put h.shelf.geometry.b (j + k) (served_block h x (i + k)) y) e ∙ ap (λ (m : ℕ). served_to h x i j m out) z
-
--- block j + k of j + m lies within the buffer
-pub served_room : (b j k m n : ℕ) → k < m → (j + m) * b ≤ n → (j + k) * b + b ≤ n
-served_room b j k m n h room = let up : suc (j + k) * b ≤ (j + m) * b = mul-le-mul_right b (omega arith) in let is = suc-mul (j + k) b in omega arith
 
 -- with m blocks of stripe x put in, a buffer that was filled up to block j is filled up to block j + m
 module _ (g : Geometry) (h : Lent) (e : h.shelf.geometry ≡ g) (a n x i j : ℕ) (at : x * g.d + i ≡ a + j) where

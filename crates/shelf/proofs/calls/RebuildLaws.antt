@@ -1,21 +1,16 @@
 -- Rebuild: its rows 12 and 14, its blocks, filled one after another and stripe after stripe, and what it leaves, which is what is promised.
 -- Assumes nothing.
-use mathlib.Core.Bool.{Bool, true, false, not, ◌&&◌}
+use mathlib.Core.Bool.{Bool, true, false, ◌&&◌}
 use mathlib.Core.List.{List}
 use mathlib.Core.Path.{◌≡◌, refl, sym, ap, ◌∙◌, subst}
 use Prim.Native.Nat.{ℕ, ◌+◌, ◌≤◌, ◌<◌}
-use native.Mathlib.Decide.{ℕ_discrete}
 use native.Mathlib.Omega.{arith}
-use lib.Dec.{ltb}
-use lib.ListN.{length, get_or, set, length-set}
-use lib.Seq.{get_or-set_same, get_or-set_other}
-use borrow.Author.Tests.{ltb-true, ltb-false}
-use Rattle.shelf.specs.Counting.{count, any}
-use Rattle.shelf.specs.below.Tables.{Tests}
-use Rattle.shelf.specs.below.Records.{Sized, failed_role, with_cleared}
+use lib.ListN.{length, get_or}
+use Rattle.shelf.specs.Counting.{count}
+use Rattle.shelf.specs.below.Records.{Sized}
 use Rattle.shelf.specs.Members.{array_members, member_at}
 use Rattle.shelf.specs.State.{State, listed, stale, marks_in}
-use Rattle.shelf.specs.Status.{rebuild, array_failed, array_sound, withheld, data_withheld, row, code_of}
+use Rattle.shelf.specs.Status.{rebuild, withheld, data_withheld}
 use Rattle.shelf.specs.Calls.{next_left, mode_left, settled, dropped, array_cleared, rebuilt, work}
 use Rattle.shelf.specs.Words.{words}
 use Rattle.shelf.specs.below.Lists.{Measures, Lists, stale_in}
@@ -25,13 +20,12 @@ use Rattle.shelf.specs.below.Rewriting.{Rewritten}
 use Rattle.shelf.specs.below.Rebuilding.{Rebuildable, parity_failed_at, data_failed_at, withheld_at, rebuilt_to, rebuilt_record, kept_entries}
 use Rattle.shelf.specs.declared.record.Geometry.{Geometry}
 use Rattle.shelf.specs.declared.record.Shelf.{Shelf}
-use Rattle.shelf.proofs.general.TestLaws.{cases, clash, choose_true, choose_false, and_false, and_left, and_right, same_bool}
-use Rattle.shelf.proofs.general.CountLaws.{any_ext, any_some, any_found, none_any}
-use Rattle.shelf.proofs.numbers.TableRows.{row_hit, row_pass}
+use Rattle.shelf.proofs.general.TestLaws.{cases, clash, and_false, and_left, and_right, same_bool}
+use Rattle.shelf.proofs.general.CountLaws.{any_some, any_found, none_any}
 use Rattle.shelf.proofs.numbers.InputLaws.{sized, Passed, few-flags, inputs_pass, measures_of_lem}
 use Rattle.shelf.proofs.hashlist.ListMarks.{marks_listed}
 use Rattle.shelf.proofs.agreement.ListedLaws.{marks-none}
-use Rattle.shelf.proofs.lent.LayoutLaws.{flags_are, log_is}
+use Rattle.shelf.proofs.lent.LayoutLaws.{log_is}
 use Rattle.shelf.proofs.lent.LeavesLaws.{list-here}
 use Rattle.shelf.proofs.calls.MadeLaws.{HoldsList, leaves_by, dropped-marks, afresh_says}
 use Rattle.shelf.proofs.calls.ServedLaws.{held_stale, list-ready}
@@ -39,13 +33,9 @@ use Rattle.shelf.proofs.calls.RefillLaws.{rebuilt_reads}
 
 -- ---- row 14, as the code tries it
 
--- a data block is on a failed member, by a table of the roles
-pub roles_any : (r : Shelf) (x : ℕ) (ts : List Bool) → Tests (r.geometry.d + r.geometry.parities) (failed_role r x) ts → any r.geometry.d (λ k. get_or ts k false) ≡ data_failed_at r x
-roles_any r x ts T = any_ext r.geometry.d (λ k. get_or ts k false) (failed_role r x) (λ k h. T k (omega arith))
-
 module _ (r : Shelf) (l : List ℕ) (R : ListReady r l) (x : ℕ) where
   -- no data block of the stripe is on a failed member
-  pub sound_at : data_failed_at r x ≡ false → false ≡ withheld_at r l x
+  sound_at : data_failed_at r x ≡ false → false ≡ withheld_at r l x
   sound_at e =
       sym (none_any r.geometry.d (λ i. withheld r.geometry (flag_at r) (listed_by r.geometry l) x i)
       (λ i h. ap (λ (u : Bool). flag_at r (r.geometry.d + r.geometry.parities) && (u && stale r.geometry (listed_by r.geometry l) x))
@@ -55,7 +45,7 @@ module _ (r : Shelf) (l : List ℕ) (R : ListReady r l) (x : ℕ) where
       off i h = cases (flag_at r (member_at r.geometry x i)) (λ t. clash (any_some r.geometry.d (λ k. flag_at r (member_at r.geometry x k)) i h t) e) (λ t. t)
 
   -- one has: the stripe is withheld where it is stale
-  pub stale_at : flag_at r (r.geometry.d + r.geometry.parities) ≡ true → data_failed_at r x ≡ true → (u : Bool) → u ≡ stale_in (words l) r.geometry x → u ≡ withheld_at r l x
+  stale_at : flag_at r (r.geometry.d + r.geometry.parities) ≡ true → data_failed_at r x ≡ true → (u : Bool) → u ≡ stale_in (words l) r.geometry x → u ≡ withheld_at r l x
   stale_at t e u q =
       let f = any_found r.geometry.d (λ k. flag_at r (member_at r.geometry x k)) e in
       same_bool u (withheld_at r l x)
@@ -67,6 +57,11 @@ module _ (r : Shelf) (l : List ℕ) (R : ListReady r l) (x : ℕ) where
       and_right (flag_at r (r.geometry.d + r.geometry.parities)) (flag_at r (member_at r.geometry x k.0) && stale r.geometry (listed_by r.geometry l) x) k.2 in
       held_stale r l R x k.0 (member_at r.geometry x k.0) refl t
       (and_left (flag_at r (member_at r.geometry x k.0)) (stale r.geometry (listed_by r.geometry l) x) both) u q ∙ k.2)
+
+  -- where the log has failed, the stripe is withheld if it is stale and has one
+  pub withheld_both : flag_at r (r.geometry.d + r.geometry.parities) ≡ true → (u v : Bool) → u ≡ stale_in (words l) r.geometry x → v ≡ data_failed_at r x → (u && v) ≡ withheld_at r l x
+  withheld_both t true v q e = cases v (λ z. z ∙ stale_at t (sym e ∙ z) true q) (λ z. z ∙ sound_at (sym e ∙ z))
+  withheld_both t false v q e = cases (data_failed_at r x) (λ z. stale_at t z false q) (λ z. sound_at z)
 
 module _ (r : Shelf) (l : List ℕ) (R : ListReady r l) where
   -- the log is sound
@@ -88,51 +83,6 @@ module _ (r : Shelf) (l : List ℕ) (R : ListReady r l) where
       fresh x hx =
           none_any r.geometry.d (listed_by r.geometry l x)
           (λ i hi. marks-none r.geometry (listed_by r.geometry l) (marks_listed r.geometry l r.next r.listed R.range R.valid ∙ z) x i hx hi)
-
--- the rows, from whether an array member has failed
-module _ (r : Shelf) (l : List ℕ) (t : Bool) (e : t ≡ array_failed r.geometry (flag_at r)) where
-  pub rows_sound : not t ≡ true → 12 ≡ code_of r.geometry (flag_at r) r.mode (listed_by r.geometry l) rebuild
-  unfolding code_of
-  rows_sound q = row_hit 12 (array_sound r.geometry (flag_at r)) _ (ap not (sym e) ∙ q)
-
-  pub rows_failed : not t ≡ false → (code : ℕ) → code ≡ row 14 (data_withheld r.geometry (flag_at r) (listed_by r.geometry l)) 0
-      → code ≡ code_of r.geometry (flag_at r) r.mode (listed_by r.geometry l) rebuild
-  unfolding code_of
-  rows_failed q code c =
-      row_pass 12 (array_sound r.geometry (flag_at r)) (row 14 (data_withheld r.geometry (flag_at r) (listed_by r.geometry l)) 0) code
-      (ap not (sym e) ∙ q) c
-
--- ---- the flags cleared
-
--- the flags below i are cleared, the others are as they were
-pub record ClearedTo (fs₀ : List Bool) (i : ℕ) (fs : List Bool) : Type 0 where
-  pub long : length fs ≡ 19
-  pub below : (k : ℕ) → k < i → get_or fs k false ≡ false
-  pub above : (k : ℕ) → i ≤ k → get_or fs k false ≡ get_or fs₀ k false
-
-pub cleared_none : (fs : List Bool) → length fs ≡ 19 → ClearedTo fs 0 fs
-cleared_none fs e = record { long = e; below = λ k h. absurd (omega arith); above = λ k _. refl }
-
-pub cleared_turn : (fs₀ fs : List Bool) (i : ℕ) → i < 19 → ClearedTo fs₀ i fs → ClearedTo fs₀ (i + 1) (set fs i false)
-cleared_turn fs₀ fs i h C =
-    record {
-      long = length-set fs i false ∙ C.long;
-      below = λ k l. elim (ℕ_discrete k i) [
-        | yes q ↦ ap (λ (m : ℕ). get_or (set fs i false) m false) q ∙ get_or-set_same fs i false false (omega (arith, C.long))
-        | no q ↦ get_or-set_other fs i k false false q ∙ C.below k (omega arith)
-      ];
-      above = λ k l. get_or-set_other fs i k false false (λ q. omega arith) ∙ C.above k (omega arith);
-    }
-
-pub cleared_all : (r : Shelf) (i : ℕ) (fs : List Bool) → i ≡ r.geometry.d + r.geometry.parities → ClearedTo r.failed i fs
-    → record { geometry = r.geometry; mode = r.mode; next = r.next; listed = r.listed; failed = fs } ≡ with_cleared r
-cleared_all r i fs e C =
-    let same : fs ≡ flags_of (array_cleared r.geometry (flag_at r)) =
-    flags_are (array_cleared r.geometry (flag_at r)) fs C.long (λ k _.
-    cases (ltb k (r.geometry.d + r.geometry.parities))
-    (λ t. let low = ltb-true k (r.geometry.d + r.geometry.parities) t in C.below k (omega (arith, e, low)) ∙ sym (choose_true (ltb k (r.geometry.d + r.geometry.parities)) false (flag_at r k) t))
-    (λ t. let high = ltb-false k (r.geometry.d + r.geometry.parities) t in C.above k (omega (arith, e, high)) ∙ sym (choose_false (ltb k (r.geometry.d + r.geometry.parities)) false (flag_at r k) t))) in
-    λ j. record { geometry = r.geometry; mode = r.mode; next = r.next; listed = r.listed; failed = same j }
 
 -- ---- the record after it
 

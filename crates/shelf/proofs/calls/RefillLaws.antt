@@ -4,18 +4,20 @@
 use mathlib.Core.Bool.{Bool, true, false, not, ◌&&◌}
 use mathlib.Core.List.{List}
 use mathlib.Core.Logic.{◌≢◌, ◌⊎◌, inl, inr, ⊎_elim}
-use mathlib.Core.Option.{Option, none, some}
+use Rattle.std.specs.Prelude.{Option, None as none, Some as some}
+use Rattle.std.specs.Option.{option_or}
 use mathlib.Core.Path.{◌≡◌, refl, sym, ap, ap₂, ◌∙◌, subst}
 use Prim.Native.Nat.{ℕ, zero, suc, ◌+◌, ◌-◌, ◌*◌, ◌≤◌, ◌<◌}
+use Rattle.std.specs.Prelude.{max}
 use native.Mathlib.Decide.{ℕ_discrete, dec_lt}
 use native.Mathlib.Omega.{arith}
 use lib.Dec.{eqb, ltb}
 use lib.ListN.{length, get_or}
-use borrow.Author.Tests.{lt-ltb, le-ltb, eq-eqb, ltb-true, eqb-true}
+use borrow.Author.Tests.{lt-ltb, le-ltb, ltb-true}
 use Rattle.stripe.specs.Blocks.{block, put}
 use Rattle.stripe.specs.Parity.{Recoverable, solved}
 use Rattle.stripe.specs.Places.{place, parity_made}
-use Rattle.stripe.proofs.Laws.{fits, place_lt, place_inj, place_other, put-block, block-whole, block-put-same, block-put_other, length-put, get_or-block, solved_ignores, second_filled, get_or-gen, gen_ext}
+use Rattle.stripe.proofs.Laws.{fits, place_lt, place_inj, place_other, put-block, block-put-same, block-put_other, length-put, get_or-block, solved_ignores, second_filled, get_or-gen, gen_ext}
 use Rattle.shelf.specs.Counting.{choose, count, any, first}
 use Rattle.shelf.specs.below.Records.{Sized}
 use Rattle.shelf.specs.Members.{array_members, member_at, place_at, address_of, column, block_parity, other_missing, worked_back}
@@ -24,8 +26,8 @@ use Rattle.shelf.specs.Calls.{settled, or_else, original, missing, block_at, reb
 use Rattle.shelf.specs.Words.{words}
 use Rattle.shelf.specs.HashList.{none_word, said, lookup}
 use Rattle.shelf.specs.Lent.{Lent, lent, flag_at, ori_by, cur_by, listed_by, state_of, array_block, array_length, role_block}
-use Rattle.shelf.specs.below.Reading.{ListReady, Ready, latest, missing_by, solved_block, lost_block, served_block}
-use Rattle.shelf.specs.below.Rebuilding.{Rebuildable, Lost, FilledBelow, parity_failed_at, still_missing, with_array, filled_at, filled_to, stripe_rebuilt, rebuilt_to}
+use Rattle.shelf.specs.below.Reading.{ListReady, Ready, latest_by, missing_by, solved_block, lost_block, served_block}
+use Rattle.shelf.specs.below.Rebuilding.{Rebuildable, Lost, FilledBelow, parity_failed_at, with_array, filled_at, filled_to, stripe_rebuilt, rebuilt_to}
 use Rattle.shelf.specs.declared.record.Geometry.{Geometry}
 use Rattle.shelf.specs.declared.record.Shelf.{Shelf}
 use Rattle.shelf.proofs.general.TestLaws.{cases, clash, choose_true, choose_false, and_left}
@@ -39,22 +41,13 @@ use Rattle.shelf.proofs.agreement.ReadLaws.{missing-some, missing-none, missing-
 use Rattle.shelf.proofs.hashlist.ListMarks.{listed_found}
 use Rattle.shelf.proofs.hashlist.ListMeaning.{said_whole}
 use Rattle.shelf.proofs.calls.MadeLaws.{HoldsArray, Rowed, elsewhere, in_row, in_parity, made_reads}
-use Rattle.shelf.proofs.calls.ServedLaws.{record_some, record_none}
-use Rattle.shelf.proofs.calls.GivenLaws.{given_sound, given_lost, given_length, worked}
+use Rattle.shelf.proofs.calls.ServedLaws.{record_some}
+use Rattle.shelf.proofs.calls.GivenLaws.{given_sound, given_length, worked}
 
 -- ---- as the code fills it
 
 ready_with : (r : Shelf) (a a' n l : List ℕ) → Ready (lent r a n l) → length a' ≡ length a → Ready (lent r a' n l)
 ready_with r a a' n l R e = record { listing = R.listing; array = e ∙ R.array; log = R.log }
-
-pub rebuildable_with : (r : Shelf) (a a' n l : List ℕ) → Rebuildable (lent r a n l) → length a' ≡ length a → Rebuildable (lent r a' n l)
-rebuildable_with r a a' n l R e = record { ready = ready_with r a a' n l R.ready e; few = R.few }
-
-pub still_filled : (i y : ℕ) → y < i → i ≡ still_missing i y
-still_filled i y h = sym (choose_true (ltb y i) i y (lt-ltb y i h))
-
-pub still_there : (i y : ℕ) → i ≤ y → y ≡ still_missing i y
-still_there i y h = sym (choose_false (ltb y i) i y (le-ltb y i h))
 
 -- a block that is put where it stands
 pub filled_by : (r : Shelf) (a n l : List ℕ) (x i k : ℕ) (v o : List ℕ) → k ≡ place_at r.geometry x i → o ≡ put r.geometry.b k v a
@@ -71,13 +64,6 @@ filled_sound r a n l R x i hx hi t =
     (fits (place_at r.geometry x i) ((r.geometry.d + r.geometry.parities) * r.geometry.s) r.geometry.b a R.array
     (place_lt r.geometry.layout r.geometry.d r.geometry.parities r.geometry.s x i hx (omega arith)))))
     (given_sound r a n l R x hx i t)
-
--- a block that is worked back and copied
-pub filled_lost : (r : Shelf) (a n l : List ℕ) → Ready (lent r a n l) → (x i k v : ℕ) (u o : List ℕ) → x < r.geometry.s → flag_at r (member_at r.geometry x i) ≡ true
-    → v ≡ latest (words l) r.geometry (address_of r.geometry x i) → v ≡ none_word → length u ≡ r.geometry.b → u ≡ lost_block (lent r a n l) x i
-    → k ≡ place_at r.geometry x i → o ≡ put r.geometry.b k (block r.geometry.b 0 u) a → o ≡ filled_at (lent r a n l) x i
-filled_lost r a n l R x i k v u o hx t ev z long e ek eo =
-    filled_by r a n l x i k (block r.geometry.b 0 u) o ek eo (block-whole r.geometry.b u long ∙ e ∙ given_lost r a n l R x hx i t v ev z)
 
 pub filled_start : (h : Lent) (x : ℕ) → h.array ≡ filled_to h x 0
 unfolding filled_to
@@ -282,20 +268,22 @@ module _ (r : Shelf) (n l : List ℕ) (two : count (r.geometry.d + r.geometry.pa
       (λ k j hk hj o e. whole_by r l L x k j hk hj o e) (λ k hk f. same k (omega arith) f) (λ p hp f. same (g.d + p) (omega arith) f) i hi
 
 -- a block without a record
-no_records : (r : Shelf) (l : List ℕ) (x i : ℕ) → latest (words l) r.geometry (address_of r.geometry x i) ≡ none_word
+no_records : (r : Shelf) (l : List ℕ) (x i : ℕ) → latest_by r.geometry l x i ≡ none
     → (ori_by r.geometry l x i ≡ none) × (cur_by r.geometry l x i ≡ none)
-unfolding latest
-no_records r l x i e =
-    let w = said (words l) r.geometry (address_of r.geometry x i) in
-    cases (eqb w.cur none_word)
-    (λ t. (record_none w.ori (sym (choose_true (eqb w.cur none_word) w.ori w.cur t) ∙ e), record_none w.cur (eqb-true w.cur none_word t)))
-    (λ t. clash (eq-eqb w.cur none_word (sym (choose_false (eqb w.cur none_word) w.ori w.cur t) ∙ e)) t)
+no_records r l x i e = both (cur_by r.geometry l x i) (ori_by r.geometry l x i) e
+  where
+    both : (c o : Option ℕ) → option_or c o ≡ none → (o ≡ none) × (c ≡ none)
+    both none o e = (e, refl)
+    both (some k) o e = absurd (never_some (sym e))
 
 -- the role that is still missing is one of few
-pub still_few : (r : Shelf) (l : List ℕ) (x i y z : ℕ) → y ≡ other_missing r.geometry (missing_by r l x) i → z ≡ still_missing i y → Recoverable r.geometry.parities i z
+pub still_few : (r : Shelf) (l : List ℕ) (x i y z : ℕ) → y ≡ other_missing r.geometry (missing_by r l x) i → z ≡ max y i → Recoverable r.geometry.parities i z
 still_few r l x i y z e ez =
-    cases (ltb y i) (λ t. inl (sym (ez ∙ choose_true (ltb y i) i y t)))
-    (λ t. subst (λ (k : ℕ). Recoverable r.geometry.parities i k) (sym (ez ∙ choose_false (ltb y i) i y t ∙ e)) (other_few r.geometry (missing_by r l x) i))
+    elim (dec_lt y i) [
+      | yes low ↦ inl (omega arith)
+      | no high ↦ let is : z ≡ y = omega arith in
+          subst (Recoverable r.geometry.parities i) (sym (is ∙ e)) (other_few r.geometry (missing_by r l x) i)
+    ]
 
 -- the block worked back from those that are still missing
 module _ (r : Shelf) (a n l : List ℕ) (R : Rebuildable (lent r a n l)) (x : ℕ) (hx : x < r.geometry.s) (i : ℕ) (hi : i < r.geometry.d)
@@ -315,21 +303,19 @@ module _ (r : Shelf) (a n l : List ℕ) (R : Rebuildable (lent r a n l)) (x : �
       by_p_alone g (state_of (lent r a n l)) x (sized R.ready.listing.range) R.few (λ k m hk hm o t. whole_by r l R.ready.listing x k m hk hm o t) i hi lost.0 none.0 none.1
       R.ready.listing.range.d_most y e low (λ f. fill y low f) (λ k hk. block_byte y k hk) (λ k hk. block_byte (g.d + 0) k hk) j hj
 
-  pub refilled : (y z : ℕ) (work : List ℕ) → y ≡ other_missing r.geometry (missing_by r l x) i → z ≡ still_missing i y
+  pub refilled : (y z : ℕ) (work : List ℕ) → y ≡ other_missing r.geometry (missing_by r l x) i → z ≡ max y i
       → work ≡ solved_block (lent r a n l) x i z → work ≡ lost_block (lent r a n l) x i
   unfolding solved_block
   refilled y z work e ez is =
       let g = r.geometry in
-      cases (ltb y i)
-      (λ t.
-      let z-is : z ≡ i = ez ∙ choose_true (ltb y i) i y t in
-      is ∙ gen_ext g.b (λ j. solved g.d i z (column (original g (state_of (lent r a n l)) x) j))
-      (λ j. solved g.d i y (column (original g (state_of (lent r a n l)) x) j))
-      (λ j hj. ap (λ (k : ℕ). solved g.d i k (column (original g (state_of (lent r a n l)) x) j)) z-is ∙ alone y e (ltb-true y i t) j hj)
-      ∙ worked r a n l R.ready x hx i y (solved_block (lent r a n l) x i y) e refl)
-      (λ t.
-      let z-is : z ≡ y = ez ∙ choose_false (ltb y i) i y t in
-      worked r a n l R.ready x hx i z work (z-is ∙ e) is)
+      elim (dec_lt y i) [
+        | yes low ↦ let z-is : z ≡ i = omega arith in
+            is ∙ gen_ext g.b (λ j. solved g.d i z (column (original g (state_of (lent r a n l)) x) j))
+            (λ j. solved g.d i y (column (original g (state_of (lent r a n l)) x) j))
+            (λ j hj. ap (λ (k : ℕ). solved g.d i k (column (original g (state_of (lent r a n l)) x) j)) z-is ∙ alone y e low j hj)
+            ∙ worked r a n l R.ready x hx i y (solved_block (lent r a n l) x i y) e refl
+        | no high ↦ let z-is : z ≡ y = omega arith in worked r a n l R.ready x hx i z work (z-is ∙ e) is
+      ]
 
 -- ---- one stripe
 

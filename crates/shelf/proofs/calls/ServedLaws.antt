@@ -1,12 +1,13 @@
 -- Blocks as a fetch's functions find them, by the list's words and by block numbers: they are the state's. And the rows of read and fetch.
 -- Assumes nothing.
-use mathlib.Core.Bool.{Bool, true, false, not, ◌&&◌, ◌||◌}
+use mathlib.Core.Bool.{Bool, true, false, not, ◌&&◌}
 use mathlib.Core.List.{List}
 use mathlib.Core.Logic.{◌≢◌}
-use mathlib.Core.Option.{Option, none, some}
+use Rattle.std.specs.Prelude.{Option, None as none, Some as some}
+use Rattle.std.proofs.lemmas.Option.{none-some, same_Some}
 use mathlib.Core.Path.{◌≡◌, refl, sym, ap, ap₂, ◌∙◌, subst}
-use Prim.Native.Nat.{ℕ, ◌+◌, ◌*◌, ◌-◌, ◌/◌, ◌%◌, ◌≤◌, ◌<◌}
-use native.Mathlib.Nat.{mul-le-mul, mul_comm, div-lt_iff_lt-mul, mod-lt}
+use Prim.Native.Nat.{ℕ, ◌+◌, ◌*◌, ◌/◌, ◌%◌, ◌≤◌, ◌<◌}
+use native.Mathlib.Nat.{mul-le-mul, mod-lt}
 use native.Mathlib.Omega.{arith}
 use native.Mathlib.Decide.{ℕ_discrete}
 use lib.Dec.{eqb, ltb}
@@ -27,7 +28,7 @@ use Rattle.shelf.specs.below.Reading.{ListReady, Ready, original_place}
 use Rattle.shelf.specs.declared.record.Geometry.{Geometry}
 use Rattle.shelf.specs.declared.record.Shelf.{Shelf}
 use Rattle.shelf.proofs.agreement.RowParity.{other_first, other_none}
-use Rattle.shelf.proofs.general.TestLaws.{cases, choose_true, choose_false, or_true, or_right, and_false, not_off, same_bool}
+use Rattle.shelf.proofs.general.TestLaws.{cases, choose_true, choose_false, or_right, not_off}
 use Rattle.shelf.proofs.hashlist.ListMarks.{listed_found}
 use Rattle.shelf.proofs.general.WalkLaws.{first_is}
 use Rattle.shelf.proofs.general.CountLaws.{any_ext, any_none, none_any}
@@ -43,6 +44,12 @@ record_some v n = choose_false (eqb v none_word) none (some v) (ne_eqb v none_wo
 pub record_none : (v : ℕ) → v ≡ none_word → record_at v ≡ none
 unfolding record_at
 record_none v n = choose_true (eqb v none_word) none (some v) (eq-eqb v none_word n)
+
+pub record_is : (v r : ℕ) → record_at v ≡ some r → (r ≡ v) × (v ≢ none_word)
+record_is v r e = elim (ℕ_discrete v none_word) [
+  | yes q ↦ absurd (none-some r (sym (record_none v q) ∙ e))
+  | no n ↦ (same_Some r v (sym e ∙ record_some v n), n)
+]
 
 -- ---- the block numbers of the originals
 
@@ -110,33 +117,10 @@ address-low d s x hd hs h =
     let low : x ≤ 65536 = omega arith in
     let m : x * d ≤ 65536 * 16 = mul-le-mul low hd in omega arith
 
--- ---- row 4, as the code tries it
-
-module _ (g : Geometry) (a n : ℕ) where
-  pub bad_zero : n ≡ 0 → true ≡ bad_address g a n
-  bad_zero e = sym (ap (λ (t : Bool). t || ltb (g.d * g.s) (a + n)) (eq-eqb n 0 e))
-
-  pub bad_many : g.d * g.s < n → true ≡ bad_address g a n
-  bad_many h = sym (ap (λ (t : Bool). eqb n 0 || t) (lt-ltb (g.d * g.s) (a + n) (omega (arith, h))) ∙ or_true (eqb n 0))
-
-  pub bad_rest : n ≢ 0 → n ≤ g.d * g.s → ltb (g.d * g.s - n) a ≡ bad_address g a n
-  bad_rest z h =
-      sym (ap (λ (t : Bool). t || ltb (g.d * g.s) (a + n)) (ne_eqb n 0 z)
-      ∙ same_bool (ltb (g.d * g.s) (a + n)) (ltb (g.d * g.s - n) a)
-      (λ t. let u = ltb-true (g.d * g.s) (a + n) t in lt-ltb (g.d * g.s - n) a (omega (arith, u, h)))
-      (λ t. let u = ltb-true (g.d * g.s - n) a t in lt-ltb (g.d * g.s) (a + n) (omega (arith, u, h))))
-
 -- ---- rows 14 and 16, as the code tries them
 
--- an address below d * s is in a stripe below s
-pub in_range-stripe : (d s a : ℕ) → 0 < d → a < d * s → a / d < s
-in_range-stripe d s a pos h = let c : d * s ≡ s * d = mul_comm d s in (div-lt_iff_lt-mul pos).1 (omega arith)
-
-pub in_range_index : (d a : ℕ) → 0 < d → a % d < d
-in_range_index d a pos = mod-lt a pos
-
 module _ (r : Shelf) (l : List ℕ) (R : ListReady r l) where
-  stale_is : (x : ℕ) → stale_in (words l) r.geometry x ≡ stale r.geometry (listed_by r.geometry l) x
+  pub stale_is : (x : ℕ) → stale_in (words l) r.geometry x ≡ stale r.geometry (listed_by r.geometry l) x
   unfolding stale_in
   stale_is x =
       any_ext r.geometry.d (listed_in (words l) r.geometry x) (listed_by r.geometry l x)
@@ -145,11 +129,6 @@ module _ (r : Shelf) (l : List ℕ) (R : ListReady r l) where
   module _ (x i : ℕ) where
     pub held-log : flag_at r (r.geometry.d + r.geometry.parities) ≡ false → false ≡ withheld r.geometry (flag_at r) (listed_by r.geometry l) x i
     held-log t = sym (ap (λ (u : Bool). u && (flag_at r (member_at r.geometry x i) && stale r.geometry (listed_by r.geometry l) x)) t)
-
-    pub held-disk : (m : ℕ) → m ≡ member_at r.geometry x i → flag_at r m ≡ false → false ≡ withheld r.geometry (flag_at r) (listed_by r.geometry l) x i
-    held-disk m e t =
-        sym (ap (λ (u : Bool). flag_at r (r.geometry.d + r.geometry.parities) && (u && stale r.geometry (listed_by r.geometry l) x)) (ap (flag_at r) (sym e) ∙ t)
-        ∙ and_false (flag_at r (r.geometry.d + r.geometry.parities)))
 
     pub held_stale : (m : ℕ) → m ≡ member_at r.geometry x i → flag_at r (r.geometry.d + r.geometry.parities) ≡ true → flag_at r m ≡ true → (u : Bool)
         → u ≡ stale_in (words l) r.geometry x → u ≡ withheld r.geometry (flag_at r) (listed_by r.geometry l) x i
@@ -175,12 +154,6 @@ none-failed r pos e a n = none_any n (wanted r.geometry (failed_role r) a) (λ j
 
 pub address-within : (g : Geometry) (a n : ℕ) → bad_address g a n ≡ false → a + n ≤ g.d * g.s
 address-within g a n e = ltb-false (g.d * g.s) (a + n) (or_right (eqb n 0) (ltb (g.d * g.s) (a + n)) e)
-
-pub count_small : (g : Geometry) → InRange g → (a n : ℕ) → a + n ≤ g.d * g.s → n * g.b ≤ 4294967296
-count_small g Y a n h =
-    let all = addresses_small g Y in
-    let low : n ≤ 1048576 = omega (arith, all, h) in
-    let m : n * g.b ≤ 1048576 * 4096 = mul-le-mul low Y.b_most in omega arith
 
 pub list-ready : (r : Shelf) (na nl : ℕ) (l : List ℕ) → Passed r na nl l → ListReady r l
 list-ready r na nl l P =

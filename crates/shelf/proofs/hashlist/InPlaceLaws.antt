@@ -16,7 +16,7 @@ use borrow.Author.Tests.{eq-eqb, ne_eqb}
 use Rattle.shelf.specs.declared.record.Geometry.{Geometry}
 use Rattle.shelf.specs.HashList.{none_word, address_at, next_at, valid, Entry, entry_in, entries, put_front, put_all, encode}
 use Rattle.shelf.specs.below.Lists.{FirstFrom}
-use Rattle.shelf.specs.below.Rewriting.{drop_stripes, drop_stripe, table, placed, held, at3, merged, Segment, LinksKept, InPlace, NotBelow, Opened, Filled}
+use Rattle.shelf.specs.below.Rewriting.{drop_stripes, drop_stripe, table, placed, nth, merged, Segment, LinksKept, InPlace, NotBelow, Opened, Filled}
 use Rattle.shelf.proofs.hashlist.ChainLaws.{length-all, length_put_n, front_other, front_head, front_next, front_slot}
 use Rattle.shelf.proofs.hashlist.DecodeLaws.{Stands, stands, put-unused}
 use Rattle.shelf.proofs.hashlist.FoundLaws.{entries_taken, entries-count, list-is, listed_room, unused}
@@ -206,10 +206,10 @@ module _ (w : List ℕ) (g : Geometry) (next n : ℕ) (hpos : 0 < g.h) (dpos : 0
     in_place : u ≡ encode g (placed n u g.h 0)
     in_place = ext_get_or 0 u (encode g (placed n u g.h 0)) (lu ∙ sym length-new) word_in
 
-  -- ---- by the c entries of y, of stripe k, in the places from p on
+  -- ---- by the entries y, of stripe k, in the places from p on
 
-  module _ (k c p : ℕ) (y : List ℕ) (F : FirstFrom w g.h n (k * g.d) p) (I : InPlace g.h n (k * g.d + g.d) p c w y) (sg : Segment g.d k c y)
-      (L : Filled p c (placed g.e w g.h 0) (placed g.e u g.h 0) y) where
+  module _ (k p : ℕ) (y : List Entry) (F : FirstFrom w g.h n (k * g.d) p) (I : InPlace g.h n (k * g.d + g.d) p w y) (sg : Segment g.d k y)
+      (L : Filled p (length y) (placed g.e w g.h 0) (placed g.e u g.h 0) y) where
     abbrev A : ℕ → ℕ
     A q = address_at w g.h q
 
@@ -219,29 +219,29 @@ module _ (w : List ℕ) (g : Geometry) (next n : ℕ) (hpos : 0 < g.h) (dpos : 0
     kept-address : (q : ℕ) → q < n → address_at u g.h q ≡ address_at w g.h q
     kept-address q o =
         let r : n ≤ g.e = room in
-        let within : p + c ≤ n = I.within in
+        let within : p + length y ≤ n = I.within in
         let lt : length (placed g.e w g.h 0) ≡ g.e = length-table g.e 0 (entry_in w g.h) in
         let lp : length (take p (placed g.e w g.h 0)) ≡ p = length-take-le p (placed g.e w g.h 0) (omega arith) in
         let us : List Entry = placed g.e u g.h 0 in
         let ws : List Entry = placed g.e w g.h 0 in
-        let front : q < p + c → entry_in u g.h q ≡ get_or (take p (placed g.e w g.h 0) ++ held c 0 y) q no_entry =
-        λ l. sym (got u q (omega arith)) ∙ sym (get_or-take (p + c) us q no_entry l) ∙ ap (λ (z : List Entry). get_or z q no_entry) L.front in
+        let front : q < p + length y → entry_in u g.h q ≡ get_or (take p (placed g.e w g.h 0) ++ take (length y) y) q no_entry =
+        λ l. sym (got u q (omega arith)) ∙ sym (get_or-take (p + length y) us q no_entry l) ∙ ap (λ (z : List Entry). get_or z q no_entry) L.front in
         elim (dec_lt q p) [
-          | yes l ↦ ap (λ (x : Entry). x.address) (front (omega arith) ∙ get_or-append (take p ws) (held c 0 y) no_entry q (omega arith)
+          | yes l ↦ ap (λ (x : Entry). x.address) (front (omega arith) ∙ get_or-append (take p ws) (take (length y) y) no_entry q (omega arith)
               ∙ get_or-take p ws q no_entry l ∙ got w q (omega arith))
-          | no l ↦ elim (dec_lt q (p + c)) [
+          | no l ↦ elim (dec_lt q (p + length y)) [
             | yes m ↦
                 let j : ℕ = q - p in
                 let z : length (take p (placed g.e w g.h 0)) + (q - p) ≡ q = omega arith in
                 let z' : p + (q - p) ≡ q = omega arith in
-                ap (λ (x : Entry). x.address) (front m ∙ ap (λ (i : ℕ). get_or (take p ws ++ held c 0 y) i no_entry) (sym z)
-                ∙ get_or-append-add (take p ws) (held c 0 y) j no_entry ∙ table_get c 0 j (at3 y) (omega arith) ∙ ap (λ (i : ℕ). at3 y i) (zero-add j))
+                ap (λ (x : Entry). x.address) (front m ∙ ap (λ (i : ℕ). get_or (take p ws ++ take (length y) y) i no_entry) (sym z)
+                ∙ get_or-append-add (take p ws) (take (length y) y) j no_entry ∙ ap (λ (es : List Entry). nth es j) (take_all (length y) y (omega arith)))
                 ∙ sym (I.here j (omega arith)) ∙ ap A z'
             | no m ↦
-                let z : p + c + (q - (p + c)) ≡ q = omega arith in
+                let z : p + length y + (q - (p + length y)) ≡ q = omega arith in
                 ap (λ (x : Entry). x.address) (sym (got u q (omega arith)) ∙ ap (λ (i : ℕ). get_or us i no_entry) (sym z)
-                ∙ sym (get_or-drop (p + c) us (q - (p + c)) no_entry) ∙ ap (λ (x : List Entry). get_or x (q - (p + c)) no_entry) (L.back c (omega arith))
-                ∙ get_or-drop (p + c) ws (q - (p + c)) no_entry ∙ ap (λ (i : ℕ). get_or ws i no_entry) z ∙ got w q (omega arith))
+                ∙ sym (get_or-drop (p + length y) us (q - (p + length y)) no_entry) ∙ ap (λ (x : List Entry). get_or x (q - (p + length y)) no_entry) (L.back (length y) (omega arith))
+                ∙ get_or-drop (p + length y) ws (q - (p + length y)) no_entry ∙ ap (λ (i : ℕ). get_or ws i no_entry) z ∙ got w q (omega arith))
           ]
         ]
 
@@ -249,17 +249,17 @@ module _ (w : List ℕ) (g : Geometry) (next n : ℕ) (hpos : 0 < g.h) (dpos : 0
     stripe-below : (q : ℕ) → q < p → A q / g.d < k
     stripe-below q o = (div-lt_iff_lt-mul dpos).1 (F.lower q o)
 
-    stripe-here : (q : ℕ) → p ≤ q → q < p + c → A q / g.d ≡ k
+    stripe-here : (q : ℕ) → p ≤ q → q < p + length y → A q / g.d ≡ k
     stripe-here q o l =
         let z : p + (q - p) ≡ q = omega arith in
         ap (λ (i : ℕ). A i / g.d) (sym z) ∙ ap (λ (i : ℕ). i / g.d) (I.here (q - p) (omega arith)) ∙ sg.stripe (q - p) (omega arith)
 
-    stripe-behind : (q : ℕ) → p + c ≤ q → q < n → k < A q / g.d
+    stripe-behind : (q : ℕ) → p + length y ≤ q → q < n → k < A q / g.d
     stripe-behind q o l =
-        let first : k * g.d + g.d ≤ A (p + c) = I.behind (omega arith) in
-        let up : A (p + c) ≤ A q = elim (dec_lt (p + c) q) [
-          | yes m ↦ let r = rises_to w g next n hpos dpos small v (p + c) q m l in omega arith
-          | no m ↦ let e : p + c ≡ q = omega arith in rw e (omega arith)
+        let first : k * g.d + g.d ≤ A (p + length y) = I.behind (omega arith) in
+        let up : A (p + length y) ≤ A q = elim (dec_lt (p + length y) q) [
+          | yes m ↦ let r = rises_to w g next n hpos dpos small v (p + length y) q m l in omega arith
+          | no m ↦ let e : p + length y ≡ q = omega arith in rw e (omega arith)
         ] in
         elim (dec_lt k (A q / g.d)) [
           | yes m ↦ m
@@ -271,70 +271,70 @@ module _ (w : List ℕ) (g : Geometry) (next n : ℕ) (hpos : 0 < g.h) (dpos : 0
         ]
 
     abbrev m : ℕ
-    m = n - c
+    m = n - length y
 
     abbrev lo : List Entry
     lo = table p 0 (entry_in w g.h)
 
     abbrev hi : List Entry
-    hi = table (m - p) (p + c) (entry_in w g.h)
+    hi = table (m - p) (p + length y) (entry_in w g.h)
 
     left : drop_stripe g.d k (entries w g) ≡ lo ++ hi
     left =
-        let within : p + c ≤ n = I.within in
+        let within : p + length y ≤ n = I.within in
         let f : ℕ → Entry = entry_in w g.h in
-        let z1 : n ≡ p + (c + (n - c - p)) = omega arith in
+        let z1 : n ≡ p + (length y + (n - length y - p)) = omega arith in
         let z2 : 0 + p ≡ p = omega arith in
         let t : ℕ → Bool = λ x. eqb x k in
-        ap (drop_stripe g.d k) (entries-placed ∙ ap (λ (j : ℕ). table j 0 f) z1 ∙ table-append p (c + (n - c - p)) 0 f
-        ∙ ap (λ (j : ℕ). table p 0 f ++ table (c + (n - c - p)) j f) z2 ∙ ap (λ (es : List Entry). table p 0 f ++ es) (table-append c (n - c - p) p f))
-        ∙ drop_more g.d t f p 0 (table c p f ++ table (n - c - p) (p + c) f) (λ q o l. ne_eqb (A q / g.d) k (λ e. let s = stripe-below q (omega arith) in omega arith))
+        ap (drop_stripe g.d k) (entries-placed ∙ ap (λ (j : ℕ). table j 0 f) z1 ∙ table-append p (length y + (n - length y - p)) 0 f
+        ∙ ap (λ (j : ℕ). table p 0 f ++ table (length y + (n - length y - p)) j f) z2 ∙ ap (λ (es : List Entry). table p 0 f ++ es) (table-append (length y) (n - length y - p) p f))
+        ∙ drop_more g.d t f p 0 (table (length y) p f ++ table (n - length y - p) (p + length y) f) (λ q o l. ne_eqb (A q / g.d) k (λ e. let s = stripe-below q (omega arith) in omega arith))
         ∙ ap (λ (es : List Entry). table p 0 f ++ es)
-        (drop_away g.d t f c p (table (n - c - p) (p + c) f) (λ q o l. eq-eqb (A q / g.d) k (stripe-here q o l))
-        ∙ drop-table g.d t f (n - c - p) (p + c) (λ q o l. ne_eqb (A q / g.d) k (λ e. let s = stripe-behind q o (omega arith) in omega arith)))
+        (drop_away g.d t f (length y) p (table (n - length y - p) (p + length y) f) (λ q o l. eq-eqb (A q / g.d) k (stripe-here q o l))
+        ∙ drop-table g.d t f (n - length y - p) (p + length y) (λ q o l. ne_eqb (A q / g.d) k (λ e. let s = stripe-behind q o (omega arith) in omega arith)))
 
-    length_left : length (drop_stripe g.d k (entries w g)) ≡ n - c
+    length_left : length (drop_stripe g.d k (entries w g)) ≡ n - length y
     length_left =
-        let within : p + c ≤ n = I.within in
+        let within : p + length y ≤ n = I.within in
         let a : length lo ≡ p = length-table p 0 (entry_in w g.h) in
-        let b : length hi ≡ n - c - p = length-table (n - c - p) (p + c) (entry_in w g.h) in
-        ap length left ∙ length-append lo hi ∙ (let s : length lo + length hi ≡ n - c = omega arith in s)
+        let b : length hi ≡ n - length y - p = length-table (n - length y - p) (p + length y) (entry_in w g.h) in
+        ap length left ∙ length-append lo hi ∙ (let s : length lo + length hi ≡ n - length y = omega arith in s)
 
-    opened : Opened g.d k c (n - c) (drop_stripe g.d k (entries w g)) (placed g.e w g.h 0) p
+    opened : Opened g.d k (length y) (n - length y) (drop_stripe g.d k (entries w g)) (placed g.e w g.h 0) p
     opened =
-        let within : p + c ≤ n = I.within in
+        let within : p + length y ≤ n = I.within in
         let r : n ≤ g.e = room in
         let f : ℕ → Entry = entry_in w g.h in
-        let z : 0 + (p + c) ≡ p + c = omega arith in
-        let ll : length (drop_stripe g.d k (entries w g)) ≡ n - c = length_left in
+        let z : 0 + (p + length y) ≡ p + length y = omega arith in
+        let ll : length (drop_stripe g.d k (entries w g)) ≡ n - length y = length_left in
         let front : take p (placed g.e w g.h 0) ≡ lo = table-take p g.e 0 f (omega arith) in
-        let back : take (n - c - p) (drop (p + c) (placed g.e w g.h 0)) ≡ hi =
-        ap (take (n - c - p)) (table-drop (p + c) g.e 0 f (omega arith))
-        ∙ table-take (n - c - p) (g.e - (p + c)) (0 + (p + c)) f (omega arith) ∙ ap (λ (j : ℕ). table (n - c - p) j f) z in
+        let back : take (n - length y - p) (drop (p + length y) (placed g.e w g.h 0)) ≡ hi =
+        ap (take (n - length y - p)) (table-drop (p + length y) g.e 0 f (omega arith))
+        ∙ table-take (n - length y - p) (g.e - (p + length y)) (0 + (p + length y)) f (omega arith) ∙ ap (λ (j : ℕ). table (n - length y - p) j f) z in
         record {
           opening = record {
             within = omega arith;
-            parts = ap₂ (λ (es fs : List Entry). es ++ fs) front back ∙ sym left ∙ sym (take_all (n - c) (drop_stripe g.d k (entries w g)) (omega arith));
-            higher = subst (NotBelow g.d k) (sym back) (not-below g.d k (n - c - p) (p + c) f (λ q o l. let s = stripe-behind q o (omega arith) in omega arith));
+            parts = ap₂ (λ (es fs : List Entry). es ++ fs) front back ∙ sym left ∙ sym (take_all (n - length y) (drop_stripe g.d k (entries w g)) (omega arith));
+            higher = subst (NotBelow g.d k) (sym back) (not-below g.d k (n - length y - p) (p + length y) f (λ q o l. let s = stripe-behind q o (omega arith) in omega arith));
           };
           lower = λ o. subst (λ (x : Entry). x.address / g.d < k) (sym (got w (p - 1) (omega arith))) (stripe-below (p - 1) (omega arith));
         }
 
-    replaced : take n (placed g.e u g.h 0) ≡ merged c y (drop_stripe g.d k (entries w g))
+    replaced : take n (placed g.e u g.h 0) ≡ merged y (drop_stripe g.d k (entries w g))
     replaced =
-        let within : p + c ≤ n = I.within in
+        let within : p + length y ≤ n = I.within in
         let r : n ≤ g.e = room in
-        let z : n ≡ n - c + c = omega arith in
-        let ll : length (drop_stripe g.d k (entries w g)) ≡ n - c = length_left in
+        let z : n ≡ n - length y + length y = omega arith in
+        let ll : length (drop_stripe g.d k (entries w g)) ≡ n - length y = length_left in
         ap (λ (j : ℕ). take j (placed g.e u g.h 0)) z
-        ∙ merged-placed w g next n k hpos dpos small v (n - c) c p (drop_stripe g.d k (entries w g)) (placed g.e w g.h 0) (placed g.e u g.h 0) y
-        (length-table g.e 0 (entry_in w g.h)) (omega arith) sg (take_all (n - c) (drop_stripe g.d k (entries w g)) (omega arith)) opened L
+        ∙ merged-placed w g next n k hpos dpos small v (n - length y) p (drop_stripe g.d k (entries w g)) (placed g.e w g.h 0) (placed g.e u g.h 0) y
+        (length-table g.e 0 (entry_in w g.h)) (omega arith) sg (take_all (n - length y) (drop_stripe g.d k (entries w g)) (omega arith)) opened L
 
-    pub replaced_words : u ≡ encode g (merged c y (drop_stripe g.d k (entries w g)))
+    pub replaced_words : u ≡ encode g (merged y (drop_stripe g.d k (entries w g)))
     replaced_words =
         in_place kept-address ∙ ap (encode g) (sym (table-take n g.e 0 (entry_in u g.h) room) ∙ replaced)
 
-    pub replaced_count : n ≡ length (merged c y (drop_stripe g.d k (entries w g)))
+    pub replaced_count : n ≡ length (merged y (drop_stripe g.d k (entries w g)))
     replaced_count =
         let r : n ≤ g.e = room in
         let l : length (placed g.e u g.h 0) ≡ g.e = length-table g.e 0 (entry_in u g.h) in

@@ -7,17 +7,18 @@ use mathlib.Core.Logic.{◌⊎◌, inl, inr, ⊎_elim, ◌≢◌}
 use mathlib.Core.Path.{◌≡◌, refl, sym, ap, ap₂, ◌∙◌, subst}
 use Prim.Native.Nat.{ℕ, zero, suc, ◌+◌, ◌*◌, ◌-◌, ◌/◌, ◌%◌, ◌≤◌, ◌<◌, zero-le}
 use native.Mathlib.Decide.{ℕ_discrete, dec_lt}
-use native.Mathlib.Nat.{mod-lt, zero-add, suc-mul, div-lt_iff_lt-mul}
+use native.Mathlib.Nat.{mod-lt, zero-add, suc-mul, mul-suc, mul-le-mul, le_refl, div-lt_iff_lt-mul}
 use native.Mathlib.Omega.{arith}
 use lib.Dec.{eqb, ltb}
 use lib.ListN.{length, get_or, set, take, drop, get_or-append, length-set, replicate, length-replicate, get_or-replicate}
-use lib.Seq.{ext_get_or, get_or-set_same, get_or-set_other, get_or-take, length-take-le}
+use lib.Seq.{ext_get_or, get_or-set_same, get_or-set_other, get_or-take, get_or-drop, length-take-le}
+use Rattle.std.proofs.lemmas.List.{get_or-append_right}
 use borrow.Author.Tests.{lt-ltb, le-ltb, eq-eqb, ne_eqb, eqb-false}
 use Rattle.shelf.specs.declared.record.Geometry.{Geometry}
 use Rattle.shelf.specs.Words.{words, bytes_of}
-use Rattle.shelf.specs.below.Lists.{Lists, FirstFrom}
-use Rattle.shelf.specs.HashList.{none_word, address_at, next_at, valid, Entry, entry, entry_in, entries, put_front, put_all, encode}
-use Rattle.shelf.specs.below.Rewriting.{Rewritten, drop_stripe, table, placed, put3, without, Blanked, KeptFrom, Leads, Chained, skip, Upward, Lowers, HeadsLowered, NextsLowered, Down, MovedDown, Put, Up, HeadsRaised, NextsRaised, MovedUp, GapMade, LastBelow, LinkedIn, merged, Replaces, held, Segment, LinksKept, NotBelow, Opened, Filled}
+use Rattle.shelf.specs.below.Lists.{Measures, Lists, FirstFrom}
+use Rattle.shelf.specs.HashList.{none_word, address_at, next_at, valid, Entry, entry_in, entries, put_front, put_all, encode}
+use Rattle.shelf.specs.below.Rewriting.{Rewritten, drop_stripe, table, placed, put_entry, without, Blanked, KeptFrom, Leads, Chained, skip, Upward, Lowers, next_behind, Relabelled, FrontRelabelled, Down, MovedDown, Put, Up, MovedUp, GapMade, LastBelow, LinkedIn, merged, Replaces, Segment, LinksKept, NotBelow, Opened, Filled}
 use Rattle.shelf.proofs.general.TestLaws.{choose_true, choose_false}
 use Rattle.shelf.proofs.general.AddressLaws.{stripe_of_lem}
 use Rattle.shelf.proofs.hashlist.ChainLaws.{entry_eq, length-all, front_head, front_next, front_slot, front_place}
@@ -204,20 +205,20 @@ pub record Passes (f : ℕ → ℕ) (s a n p t z : ℕ) : Type 0 where
   pub here : (z ≡ none_word) ⊎ ((a ≤ z) × ((z < n) × (f z ≡ s)))
 
 -- the link y led to z
-abbrev pub Passing : List ℕ → ℕ → ℕ → ℕ → ℕ → ℕ → Type 0
-Passing w h p t y z =
-    (f : ℕ → ℕ) (s a n : ℕ) → a ≤ p → t ≤ n → n ≤ 4096 → ((q : ℕ) → p ≤ q → q < t → Leads f (f q) (q + 1) n 0 0 (next_at w h q))
+abbrev pub Passing : (ℕ → ℕ) → ℕ → ℕ → ℕ → ℕ → Type 0
+Passing next p t y z =
+    (f : ℕ → ℕ) (s a n : ℕ) → a ≤ p → t ≤ n → n ≤ 4096 → ((q : ℕ) → p ≤ q → q < t → Leads f (f q) (q + 1) n 0 0 (next q))
     → Leads f s a n 0 0 y → Passes f s a n p t z
 
-pub passing-start : (w : List ℕ) (h p t y : ℕ) → Passing w h p t y y
-passing-start w h p t y f s a n o l m C L =
+pub passing-start : (next : ℕ → ℕ) (p t y : ℕ) → Passing next p t y y
+passing-start next p t y f s a n o l m C L =
     record {
       before = λ q i j k x. L.before q i j k (λ u. u);
       here = ⊎_elim (λ z. inl z) (λ z. inr (z.0, (z.1.0, z.1.1.0))) L.here;
     }
 
-pub passing_turn : (w : List ℕ) (h p t y z r : ℕ) → p ≤ z → z < t → r ≡ next_at w h z → Passing w h p t y z → Passing w h p t y r
-passing_turn w h p t y z r pz zt is P f s a n o l m C L =
+pub passing_turn : (next : ℕ → ℕ) (p t y z r : ℕ) → p ≤ z → z < t → r ≡ next z → Passing next p t y z → Passing next p t y r
+passing_turn next p t y z r pz zt is P f s a n o l m C L =
     let old = P f s a n o l m C L in
     let at : f z ≡ s = ⊎_elim (λ u. absurd (omega arith)) (λ u. u.1.1) old.here in
     let on : Leads f (f z) (z + 1) n 0 0 r = subst (λ (k : ℕ). Leads f (f z) (z + 1) n 0 0 k) (sym is) (C z pz zt) in
@@ -229,15 +230,17 @@ passing_turn w h p t y z r pz zt is P f s a n o l m C L =
       here = ⊎_elim (λ u. inl u) (λ u. inr (omega (arith, u.0), (u.1.0, u.1.1.0 ∙ at))) on.here;
     }
 
-module _ (w : List ℕ) (h p t y z : ℕ) (pt : p ≤ t) (P : Passing w h p t y z) where
-  pub lowers_low : z < p → Lowers w h p t y z
-  lowers_low zp f s a n o l m C L =
-      let old = P f s a n o l m C L in
-      record {
-        before = λ q i j k x. λ e. old.before q i (omega arith) k (λ b. absurd (omega arith)) (ap f (sym (skip-low p t q (omega arith))) ∙ e);
-        here = ⊎_elim (λ u. absurd (omega arith))
-            (λ u. inr (u.0, (omega arith, (ap f (skip-low p t z zp) ∙ u.1.1, λ b. b)))) old.here;
-      }
+module _ (next : ℕ → ℕ) (p t y z : ℕ) (pt : p ≤ t) (P : Passing next p t y z) where
+  pub lowers_low : z < p → Lowers next p t y z
+  lowers_low zp = record {
+    leads = λ f s a n o l m C L.
+        let old = P f s a n o l m C L in
+        record {
+          before = λ q i j k x. λ e. old.before q i (omega arith) k (λ b. absurd (omega arith)) (ap f (sym (skip-low p t q (omega arith))) ∙ e);
+          here = ⊎_elim (λ u. absurd (omega arith))
+              (λ u. inr (u.0, (omega arith, (ap f (skip-low p t z zp) ∙ u.1.1, λ b. b)))) old.here;
+        };
+  }
 
   stays : (f : ℕ → ℕ) (s a n : ℕ) → t ≤ n → Passes f s a n p t z → (q : ℕ) → a ≤ q → q < n - (t - p) → (q < p → q < z) → (p ≤ q → q + (t - p) < z) → f (skip p t q) ≢ s
   stays f s a n l old q i j lo hi e = elim (dec_lt q p) [
@@ -247,27 +250,29 @@ module _ (w : List ℕ) (h p t y z : ℕ) (pt : p ≤ t) (P : Passing w h p t y 
         old.before (q + (t - p)) (omega arith) (omega arith) (hi pq) (λ b. omega arith) (ap f (sym (skip_high p t q pq)) ∙ e)
   ]
 
-  pub lowers_none : z ≡ none_word → Lowers w h p t y z
-  lowers_none zn f s a n o l m C L =
-      let old = P f s a n o l m C L in
-      record { before = λ q i j k x. stays f s a n l old q i j (λ b. k) (λ b. omega arith); here = inl zn }
+  pub lowers_none : z ≡ none_word → Lowers next p t y z
+  lowers_none zn = record {
+    leads = λ f s a n o l m C L.
+        let old = P f s a n o l m C L in
+        record { before = λ q i j k x. stays f s a n l old q i j (λ b. k) (λ b. omega arith); here = inl zn };
+  }
 
-  pub lowers_high : t ≤ z → z ≢ none_word → Lowers w h p t y (z - (t - p))
-  lowers_high tz ne f s a n o l m C L =
-      let old = P f s a n o l m C L in
-      let back : z - (t - p) + (t - p) ≡ z = omega arith in
-      record {
-        before = λ q i j k x. stays f s a n l old q i j (λ b. omega arith) (λ b. omega arith);
-        here = ⊎_elim (λ u. absurd (ne u))
-            (λ u. let zl : z < n = u.1.0 in inr (omega arith, (omega arith, (ap f (skip_high p t (z - (t - p)) (omega arith) ∙ back) ∙ u.1.1, λ b. b)))) old.here;
-      }
+  pub lowers_high : t ≤ z → z ≢ none_word → Lowers next p t y (z - (t - p))
+  lowers_high tz ne = record {
+    leads = λ f s a n o l m C L.
+        let old = P f s a n o l m C L in
+        let back : z - (t - p) + (t - p) ≡ z = omega arith in
+        record {
+          before = λ q i j k x. stays f s a n l old q i j (λ b. omega arith) (λ b. omega arith);
+          here = ⊎_elim (λ u. absurd (ne u))
+              (λ u. let zl : z < n = u.1.0 in inr (omega arith, (omega arith, (ap f (skip_high p t (z - (t - p)) (omega arith) ∙ back) ∙ u.1.1, λ b. b)))) old.here;
+        };
+  }
 
--- the words that hold the links taken out may be others
-pub lowers_same : (w u : List ℕ) (h p t y y' r r' : ℕ) → ((q : ℕ) → p ≤ q → q < t → next_at u h q ≡ next_at w h q) → y' ≡ y → r' ≡ r → Lowers u h p t y' r' → Lowers w h p t y r
-lowers_same w u h p t y y' r r' same ey er M f s a n o l m C L =
-    subst (λ (k : ℕ). Leads (λ q. f (skip p t q)) s a (n - (t - p)) 0 0 k) er
-    (M f s a n o l m (λ q i j. subst (λ (k : ℕ). Leads f (f q) (q + 1) n 0 0 k) (sym (same q i j)) (C q i j))
-    (subst (λ (k : ℕ). Leads f s a n 0 0 k) (sym ey) L))
+-- the links taken out may be told by others that are the same
+pub lowers_same : (next other : ℕ → ℕ) (p t y r : ℕ) → ((q : ℕ) → p ≤ q → q < t → other q ≡ next q) → Lowers other p t y r → Lowers next p t y r
+lowers_same next other p t y r same M =
+    record { leads = λ f s a n o l m C L. M.leads f s a n o l m (λ q i j. subst (λ (k : ℕ). Leads f (f q) (q + 1) n 0 0 k) (sym (same q i j)) (C q i j)) L }
 
 -- the link of a place behind them
 pub leads_down : (f : ℕ → ℕ) (s a n p t y r : ℕ) → p ≤ t → t ≤ a → t ≤ n → n ≤ 4096 → Down (t - p) y r → Leads f s a n 0 0 y
@@ -291,61 +296,122 @@ leads_down f s a n p t y r pt ta tn m D L =
     })
     L.here
 
--- ---- heads and Next words lowered one by one
+-- ---- links relabelled one by one
 
-pub upward_kept : (h p t i : ℕ) (w u : List ℕ) → i ≤ h + 4 * p → KeptFrom i w u → Upward h p t w → Upward h p t u
-upward_kept h p t i w u o K U q a b = rw (K (h + 4 * q + 3) (omega arith)) (U q a b)
+-- the links stand in different words
+links-apart : (a s k n : ℕ) → 0 < s → k < n → a + s * k < a + s * n
+links-apart a s k n s0 o =
+    let m : s * suc k ≤ s * n = mul-le-mul (le_refl s) o in
+    let e : s * suc k ≡ s * k + s = mul-suc s k in
+    omega arith
 
-pub heads-start : (h p t : ℕ) (w : List ℕ) → HeadsLowered h p t 0 w w
-heads-start h p t w = record { heads = λ s o. absurd (omega arith); rest = λ j o. refl }
+module _ (R : ℕ → ℕ → Type 0) where
+  pub relabel-start : (a s : ℕ) (w : List ℕ) → Relabelled R a s 0 w w
+  relabel-start a s w = record { links = λ k o. absurd (omega arith); others = λ j o. refl }
 
-pub heads_turn : (h p t i y r : ℕ) (w u v : List ℕ) → i < h → i < length u → HeadsLowered h p t i w u → y ≡ get_or u i 0 → Lowers u h p t y r → v ≡ set u i r
-    → HeadsLowered h p t (i + 1) w v
-heads_turn h p t i y r w u v ih il H ey M e =
-    let other : (k : ℕ) → k ≢ i → get_or v k 0 ≡ get_or u k 0 = λ k n. ap (λ (x : List ℕ). get_or x k 0) e ∙ get_or-set_other u i k r 0 n in
-    let here : r ≡ get_or v i 0 = sym (ap (λ (x : List ℕ). get_or x i 0) e ∙ get_or-set_same u i r 0 (omega arith)) in
+  pub relabel_turn : (a s n y r : ℕ) (w u v : List ℕ) → 0 < s → a + s * n < length u → Relabelled R a s n w u → y ≡ get_or u (a + s * n) 0 → R y r
+      → v ≡ set u (a + s * n) r → Relabelled R a s (n + 1) w v
+  relabel_turn a s n y r w u v s0 l L ey Z e =
+      let i : ℕ = a + s * n in
+      let other : (j : ℕ) → j ≢ i → get_or v j 0 ≡ get_or u j 0 = λ j d. ap (λ (x : List ℕ). get_or x j 0) e ∙ get_or-set_other u i j r 0 d in
+      let here : get_or v i 0 ≡ r = ap (λ (x : List ℕ). get_or x i 0) e ∙ get_or-set_same u i r 0 l in
+      let old : y ≡ get_or w i 0 = ey ∙ L.others i (λ k o z. let x = links-apart a s k n s0 o in omega arith) in
+      record {
+        links = λ k o. elim (ℕ_discrete k n) [
+          | yes z ↦ subst (λ (j : ℕ). R (get_or w (a + s * j) 0) (get_or v (a + s * j) 0)) (sym z)
+              (subst (λ (x : ℕ). R (get_or w i 0) x) (sym here) (subst (λ (x : ℕ). R x r) old Z))
+          | no z ↦
+              let on : k < n = omega arith in
+              subst (λ (x : ℕ). R (get_or w (a + s * k) 0) x) (sym (other (a + s * k) (λ b. let x = links-apart a s k n s0 on in omega arith))) (L.links k on)
+        ];
+        others = λ j f. other j (f n (omega arith)) ∙ L.others j (λ k o. f k (omega arith));
+      }
+
+  -- the heads, and then the Next words
+  pub front_relabelled : (h p : ℕ) (w u v : List ℕ) → Relabelled R 0 1 h w u → Relabelled R (h + 3) 4 p u v → FrontRelabelled R h p w v
+  front_relabelled h p w u v A B =
+      let one : (k : ℕ) → 0 + 1 * k ≡ k = λ k. omega arith in
+      let next : (q : ℕ) → h + 3 + 4 * q ≡ h + 4 * q + 3 = λ q. omega arith in
+      let head : (s : ℕ) → s < h → get_or v s 0 ≡ get_or u s 0 = λ s o. B.others s (λ k l z. omega arith) in
+      let high : (j : ℕ) → h ≤ j → get_or u j 0 ≡ get_or w j 0 = λ j o. A.others j (λ k l z. omega arith) in
+      let word : (q i : ℕ) → i < 3 → get_or v (h + 4 * q + i) 0 ≡ get_or w (h + 4 * q + i) 0 =
+      λ q i o. B.others (h + 4 * q + i) (λ k l z. omega arith) ∙ high (h + 4 * q + i) (omega arith) in
+      record {
+        heads = λ s o.
+            subst (λ (x : ℕ). R (get_or w s 0) x) (sym (head s o))
+            (subst (λ (k : ℕ). R (get_or w k 0) (get_or u k 0)) (one s) (A.links s o));
+        nexts = λ q o.
+            subst (λ (x : ℕ). R x (next_at v h q)) (high (h + 4 * q + 3) (omega arith))
+            (subst (λ (k : ℕ). R (get_or u k 0) (get_or v k 0)) (next q) (B.links q o));
+        entries = λ q.
+            let z : h + 4 * q ≡ h + 4 * q + 0 = omega arith in
+            entry_eq (entry_in v h q) (entry_in w h q)
+            (subst (λ (k : ℕ). get_or v k 0 ≡ get_or w k 0) (sym z) (word q 0 (omega arith))) (word q 1 (omega arith)) (word q 2 (omega arith));
+        rest = λ j o. B.others j (λ k l z. omega arith) ∙ high j (omega arith);
+      }
+
+-- and by what is known of each
+pub front_known : (R S : ℕ → ℕ → Type 0) → ((y r : ℕ) → R y r → S y r) → (h p : ℕ) (w v : List ℕ) → FrontRelabelled R h p w v → FrontRelabelled S h p w v
+front_known R S f h p w v A =
+    record { heads = λ s o. f _ _ (A.heads s o); nexts = λ q o. f _ _ (A.nexts q o); entries = A.entries; rest = A.rest }
+
+-- ---- the front of a list, and what stands behind it
+
+next-behind : (h p q : ℕ) (w : List ℕ) → p ≤ q → next_behind (drop (h + 4 * p) w) p q ≡ next_at w h q
+next-behind h p q w o =
+    let z : h + 4 * p + (0 + 4 * (q - p) + 3) ≡ h + 4 * q + 3 = omega arith in
+    get_or-drop (h + 4 * p) w (0 + 4 * (q - p) + 3) 0 ∙ ap (λ (k : ℕ). get_or w k 0) z
+
+pub upward_behind : (h p t : ℕ) (w : List ℕ) → Upward (next_at w h) p t → Upward (next_behind (drop (h + 4 * p) w) p) p t
+upward_behind h p t w U = record { up = λ q a b. rw (next-behind h p q w a) (U.up q a b) }
+
+pub lowers_behind : (h p t y r : ℕ) (w : List ℕ) → Lowers (next_behind (drop (h + 4 * p) w) p) p t y r → Lowers (next_at w h) p t y r
+lowers_behind h p t y r w = lowers_same (next_at w h) (next_behind (drop (h + 4 * p) w) p) p t y r (λ q a b. next-behind h p q w a)
+
+-- where the front is relabelled, the whole is
+pub front_whole : (R : ℕ → ℕ → Type 0) (h p : ℕ) (w u : List ℕ) → h + 4 * p ≤ length w → length u ≡ h + 4 * p
+    → FrontRelabelled R h p (take (h + 4 * p) w) u → FrontRelabelled R h p w (u ++ drop (h + 4 * p) w)
+front_whole R h p w u long lu F =
+    let k : ℕ = h + 4 * p in
+    let v : List ℕ = u ++ drop k w in
+    let low : (j : ℕ) → j < k → get_or v j 0 ≡ get_or u j 0 = λ j o. get_or-append u (drop k w) 0 j (omega arith) in
+    let old : (j : ℕ) → j < k → get_or (take k w) j 0 ≡ get_or w j 0 = λ j o. get_or-take k w j 0 o in
+    let high : (j : ℕ) → k ≤ j → get_or v j 0 ≡ get_or w j 0 =
+    λ j o.
+    let z : k + (j - k) ≡ j = omega arith in
+    get_or-append_right u (drop k w) k j 0 lu o ∙ get_or-drop k w (j - k) 0 ∙ ap (λ (i : ℕ). get_or w i 0) z in
     record {
-      heads = λ s o. elim (ℕ_discrete s i) [
-        | yes z ↦ subst (λ (k : ℕ). Lowers w h p t (get_or w k 0) (get_or v k 0)) (sym z)
-            (lowers_same w u h p t (get_or w i 0) y (get_or v i 0) r (λ q a b. H.rest (h + 4 * q + 3) (omega arith)) (ey ∙ H.rest i (omega arith)) here M)
-        | no z ↦ subst (λ (k : ℕ). Lowers w h p t (get_or w s 0) k) (sym (other s z)) (H.heads s (omega arith))
+      heads = λ s o. subst (λ (x : ℕ). R x (get_or v s 0)) (old s (omega arith)) (subst (λ (x : ℕ). R (get_or (take k w) s 0) x) (sym (low s (omega arith))) (F.heads s o));
+      nexts = λ q o.
+          subst (λ (x : ℕ). R x (next_at v h q)) (old (h + 4 * q + 3) (omega arith))
+          (subst (λ (x : ℕ). R (next_at (take k w) h q) x) (sym (low (h + 4 * q + 3) (omega arith))) (F.nexts q o));
+      entries = λ q. elim (dec_lt q p) [
+        | yes o ↦
+            let e : entry_in u h q ≡ entry_in (take k w) h q = F.entries q in
+            entry_eq (entry_in v h q) (entry_in w h q)
+            (low (h + 4 * q) (omega arith) ∙ ap (λ (x : Entry). x.address) e ∙ old (h + 4 * q) (omega arith))
+            (low (h + 4 * q + 1) (omega arith) ∙ ap (λ (x : Entry). x.ori) e ∙ old (h + 4 * q + 1) (omega arith))
+            (low (h + 4 * q + 2) (omega arith) ∙ ap (λ (x : Entry). x.cur) e ∙ old (h + 4 * q + 2) (omega arith))
+        | no o ↦
+            entry_eq (entry_in v h q) (entry_in w h q) (high (h + 4 * q) (omega arith)) (high (h + 4 * q + 1) (omega arith)) (high (h + 4 * q + 2) (omega arith))
       ];
-      rest = λ j o. other j (λ z. omega arith) ∙ H.rest j (omega arith);
-    }
-
-pub nexts-start : (h p t : ℕ) (w : List ℕ) → NextsLowered h p t 0 w w
-nexts-start h p t w = record { nexts = λ q o. absurd (omega arith); entries = λ q. refl; heads = λ s o. refl; rest = λ j o. refl }
-
-pub nexts_turn : (h p t i y r : ℕ) (w u v : List ℕ) → i < p → h + 4 * i + 3 < length u → NextsLowered h p t i w u → y ≡ next_at u h i → Lowers u h p t y r
-    → v ≡ set u (h + 4 * i + 3) r → NextsLowered h p t (i + 1) w v
-nexts_turn h p t i y r w u v ip il H ey M e =
-    let other : (k : ℕ) → k ≢ h + 4 * i + 3 → get_or v k 0 ≡ get_or u k 0 = λ k n. ap (λ (x : List ℕ). get_or x k 0) e ∙ get_or-set_other u (h + 4 * i + 3) k r 0 n in
-    let here : r ≡ next_at v h i = sym (ap (λ (x : List ℕ). get_or x (h + 4 * i + 3) 0) e ∙ get_or-set_same u (h + 4 * i + 3) r 0 (omega arith)) in
-    record {
-      nexts = λ q o. elim (ℕ_discrete q i) [
-        | yes z ↦ subst (λ (k : ℕ). Lowers w h p t (next_at w h k) (next_at v h k)) (sym z)
-            (lowers_same w u h p t (next_at w h i) y (next_at v h i) r (λ k a b. H.rest (h + 4 * k + 3) (omega arith)) (ey ∙ H.rest (h + 4 * i + 3) (omega arith)) here M)
-        | no z ↦ subst (λ (k : ℕ). Lowers w h p t (next_at w h q) k) (sym (other (h + 4 * q + 3) (λ b. z (omega arith)))) (H.nexts q (omega arith))
-      ];
-      entries = λ q. entry_eq (entry_in v h q) (entry_in u h q) (other (h + 4 * q) (λ b. omega arith)) (other (h + 4 * q + 1) (λ b. omega arith)) (other (h + 4 * q + 2) (λ b. omega arith)) ∙ H.entries q;
-      heads = λ s o. other s (λ b. omega arith) ∙ H.heads s o;
-      rest = λ j o. other j (λ b. omega arith) ∙ H.rest j (omega arith);
+      rest = λ j o. high j o;
     }
 
 -- ---- a place's four words put
 
-pub put-made : (h j a o c y : ℕ) (w : List ℕ) {w3 w4 : List ℕ} → h + 4 * j + 4 ≤ length w → w3 ≡ put3 w (h + 4 * j) a o c → w4 ≡ set w3 (h + 4 * j + 3) y
-    → Put h j (entry a o c) y w w4
-put-made h j a o c y w {w3 = w3} {w4 = w4} l e3 e4 =
+pub put-made : (h j : ℕ) (x : Entry) (y : ℕ) (w : List ℕ) {w3 w4 : List ℕ} → h + 4 * j + 4 ≤ length w → w3 ≡ put_entry w (h + 4 * j) x → w4 ≡ set w3 (h + 4 * j + 3) y
+    → Put h j x y w w4
+put-made h j x y w {w3 = w3} {w4 = w4} l e3 e4 =
     let long : length w3 ≡ length w = ap length e3 ∙ simp length-set in
     let last : (k : ℕ) → k ≢ h + 4 * j + 3 → get_or w4 k 0 ≡ get_or w3 k 0 = λ k n. ap (λ (x : List ℕ). get_or x k 0) e4 ∙ get_or-set_other w3 (h + 4 * j + 3) k y 0 n in
     record {
       entry = entry_eq (entry_in w4 h j) (entry_in w3 h j)
           (last (h + 4 * j) (λ b. omega arith)) (last (h + 4 * j + 1) (λ b. omega arith)) (last (h + 4 * j + 2) (λ b. omega arith))
-          ∙ ap (λ (x : List ℕ). entry_in x h j) e3 ∙ three_same w (h + 4 * j) a o c (omega arith);
+          ∙ ap (λ (z : List ℕ). entry_in z h j) e3 ∙ three_same w (h + 4 * j) x (omega arith);
       next = ap (λ (x : List ℕ). get_or x (h + 4 * j + 3) 0) e4 ∙ get_or-set_same w3 (h + 4 * j + 3) y 0 (omega (arith, long));
-      below = λ q b. last q (λ z. omega arith) ∙ other_words w w3 (h + 4 * j) a o c e3 q (λ z. omega arith) (λ z. omega arith) (λ z. omega arith);
-      rest = λ q b. last q (λ z. omega arith) ∙ other_words w w3 (h + 4 * j) a o c e3 q (λ z. omega arith) (λ z. omega arith) (λ z. omega arith);
+      below = λ q b. last q (λ z. omega arith) ∙ other_words w w3 (h + 4 * j) x e3 q (λ z. omega arith) (λ z. omega arith) (λ z. omega arith);
+      rest = λ q b. last q (λ z. omega arith) ∙ other_words w w3 (h + 4 * j) x e3 q (λ z. omega arith) (λ z. omega arith) (λ z. omega arith);
     }
 
 -- ---- places moved down one by one
@@ -401,13 +467,10 @@ module _ (w : List ℕ) (g : Geometry) (next n : ℕ) (hpos : 0 < g.h) (dpos : 0
       ⊎_elim (λ z. omega arith) (λ z. omega (arith, z.0)) (chained.nexts q o (λ x. x)).here
 
   -- the places from p on, below t, taken out: heads lowered, Next words below lowered, the places behind moved down, and none behind
-  module _ (p t : ℕ) (pt : p ≤ t) (tn : t ≤ n) (w1 w2 w3 w4 : List ℕ) (l4 : length w4 ≡ g.h + 4 * g.e) (H : HeadsLowered g.h p t g.h w w1)
-      (N : NextsLowered g.h p t p w1 w2) (M : MovedDown g.h p (t - p) (n - (t - p)) w2 w3) (B : Blanked (g.h + 4 * (n - (t - p))) (g.h + 4 * n) w3 w4) where
+  module _ (p t : ℕ) (pt : p ≤ t) (tn : t ≤ n) (w2 w3 w4 : List ℕ) (l4 : length w4 ≡ g.h + 4 * g.e)
+      (N : FrontRelabelled (Lowers (next_at w g.h) p t) g.h p w w2) (M : MovedDown g.h p (t - p) (n - (t - p)) w2 w3) (B : Blanked (g.h + 4 * (n - (t - p))) (g.h + 4 * n) w3 w4) where
     abbrev T : ℕ → Entry
     T q = entry_in w g.h (skip p t q)
-
-    one_entry : (q : ℕ) → entry_in w1 g.h q ≡ entry_in w g.h q
-    one_entry q = entry_eq (entry_in w1 g.h q) (entry_in w g.h q) (H.rest (g.h + 4 * q) (omega arith)) (H.rest (g.h + 4 * q + 1) (omega arith)) (H.rest (g.h + 4 * q + 2) (omega arith))
 
     four_three : (q : ℕ) → q < n - (t - p) → entry_in w4 g.h q ≡ entry_in w3 g.h q
     four_three q o = entry_eq (entry_in w4 g.h q) (entry_in w3 g.h q) (B.below (g.h + 4 * q) (omega arith)) (B.below (g.h + 4 * q + 1) (omega arith)) (B.below (g.h + 4 * q + 2) (omega arith))
@@ -417,15 +480,12 @@ module _ (w : List ℕ) (g : Geometry) (next n : ℕ) (hpos : 0 < g.h) (dpos : 0
 
     entry-is : (q : ℕ) → q < n - (t - p) → entry_in w4 g.h q ≡ T q
     entry-is q o = four_three q o ∙ elim (dec_lt q p) [
-      | yes l ↦ three_two q l ∙ N.entries q ∙ one_entry q ∙ ap (entry_in w g.h) (sym (skip-low p t q l))
-      | no l ↦ M.entries q (omega arith) o ∙ N.entries (q + (t - p)) ∙ one_entry (q + (t - p)) ∙ ap (entry_in w g.h) (sym (skip_high p t q (omega arith)))
+      | yes l ↦ three_two q l ∙ N.entries q ∙ ap (entry_in w g.h) (sym (skip-low p t q l))
+      | no l ↦ M.entries q (omega arith) o ∙ N.entries (q + (t - p)) ∙ ap (entry_in w g.h) (sym (skip_high p t q (omega arith)))
     ]
 
-    links_in : (u : List ℕ) → ((q : ℕ) → p ≤ q → q < t → next_at u g.h q ≡ next_at w g.h q) → (q : ℕ) → p ≤ q → q < t → Leads F (F q) (q + 1) n 0 0 (next_at u g.h q)
-    links_in u same q o l = subst (λ (y : ℕ). Leads F (F q) (q + 1) n 0 0 y) (sym (same q o l)) (chained.nexts q (omega arith) (λ x. x))
-
-    next_one : (q : ℕ) → next_at w1 g.h q ≡ next_at w g.h q
-    next_one q = H.rest (g.h + 4 * q + 3) (omega arith)
+    links_in : (q : ℕ) → p ≤ q → q < t → Leads F (F q) (q + 1) n 0 0 (next_at w g.h q)
+    links_in q o l = chained.nexts q (omega arith) (λ x. x)
 
     chained_left : Chained (λ q. F (skip p t q)) g.h (n - (t - p)) 0 0 w4
     chained_left =
@@ -433,15 +493,14 @@ module _ (w : List ℕ) (g : Geometry) (next n : ℕ) (hpos : 0 < g.h) (dpos : 0
         record {
           heads = λ s o.
               subst (λ (y : ℕ). Leads (λ q. F (skip p t q)) s 0 (n - (t - p)) 0 0 y)
-              (sym (B.below s (omega arith) ∙ M.below s (omega arith) ∙ N.heads s o))
-              (H.heads s o F s 0 n zero-le tn (omega arith) (links_in w (λ q a b. refl)) (chained.heads s o));
+              (sym (B.below s (omega arith) ∙ M.below s (omega arith)))
+              ((N.heads s o).leads F s 0 n zero-le tn (omega arith) links_in (chained.heads s o));
           nexts = λ q o c. elim (dec_lt q p) [
             | yes l ↦
                 subst (λ (y : ℕ). Leads (λ j. F (skip p t j)) (F (skip p t q)) (q + 1) (n - (t - p)) 0 0 y)
                 (sym (B.below (g.h + 4 * q + 3) (omega arith) ∙ M.below (g.h + 4 * q + 3) (omega arith)))
-                (N.nexts q l F (F (skip p t q)) (q + 1) n (omega arith) tn (omega arith) (links_in w1 (λ j a b. next_one j))
-                (subst (λ (y : ℕ). Leads F (F (skip p t q)) (q + 1) n 0 0 y) (sym (next_one q))
-                (subst (λ (k : ℕ). Leads F (F k) (q + 1) n 0 0 (next_at w g.h q)) (sym (skip-low p t q l)) (chained.nexts q (omega arith) (λ x. x)))))
+                ((N.nexts q l).leads F (F (skip p t q)) (q + 1) n (omega arith) tn (omega arith) links_in
+                (subst (λ (k : ℕ). Leads F (F k) (q + 1) n 0 0 (next_at w g.h q)) (sym (skip-low p t q l)) (chained.nexts q (omega arith) (λ x. x))))
             | no l ↦
                 let pq : p ≤ q = omega arith in
                 let z : q + (t - p) + 1 - (t - p) ≡ q + 1 = omega arith in
@@ -450,7 +509,7 @@ module _ (w : List ℕ) (g : Geometry) (next n : ℕ) (hpos : 0 < g.h) (dpos : 0
                 (subst (λ (k : ℕ). Leads (λ j. F (skip p t j)) (F (skip p t q)) k (n - (t - p)) 0 0 (next_at w3 g.h q)) z
                 (leads_down F (F (skip p t q)) (q + (t - p) + 1) n p t (next_at w2 g.h (q + (t - p))) (next_at w3 g.h q) pt (omega arith) tn (omega arith)
                 (M.nexts q pq o)
-                (subst (λ (y : ℕ). Leads F (F (skip p t q)) (q + (t - p) + 1) n 0 0 y) (sym (N.rest (g.h + 4 * (q + (t - p)) + 3) (omega arith) ∙ next_one (q + (t - p))))
+                (subst (λ (y : ℕ). Leads F (F (skip p t q)) (q + (t - p) + 1) n 0 0 y) (sym (N.rest (g.h + 4 * (q + (t - p)) + 3) (omega arith)))
                 (subst (λ (k : ℕ). Leads F (F k) (q + (t - p) + 1) n 0 0 (next_at w g.h (q + (t - p)))) (sym (skip_high p t q pq))
                 (chained.nexts (q + (t - p)) (omega arith) (λ x. x))))))
           ];
@@ -459,7 +518,7 @@ module _ (w : List ℕ) (g : Geometry) (next n : ℕ) (hpos : 0 < g.h) (dpos : 0
     behind : (i : ℕ) → g.h + 4 * (n - (t - p)) ≤ i → i < g.h + 4 * g.e → get_or w4 i 0 ≡ none_word
     behind i o l = elim (dec_lt i (g.h + 4 * n)) [
       | yes k ↦ B.inside i o k
-      | no k ↦ B.above i (omega arith) ∙ M.rest i o ∙ N.rest i (omega arith) ∙ H.rest i (omega arith) ∙ unused w g next n hpos dpos small v i (omega arith) l
+      | no k ↦ B.above i (omega arith) ∙ M.rest i o ∙ N.rest i (omega arith) ∙ unused w g next n hpos dpos small v i (omega arith) l
     ]
 
     pub taken_out : w4 ≡ encode g (without g.h p t n w)
@@ -544,41 +603,6 @@ module _ (w : List ℕ) (g : Geometry) (next n : ℕ) (hpos : 0 < g.h) (dpos : 0
 
 -- ---- places put in: heads and Next words raised one by one, places moved up
 
-pub raised-start : (p m c : ℕ) (w : List ℕ) → HeadsRaised p m c 0 w w
-raised-start p m c w = record { heads = λ s o. absurd (omega arith); rest = λ j o. refl }
-
-pub raised_turn : (p m c i y r : ℕ) (w u v : List ℕ) → i < length u → HeadsRaised p m c i w u → y ≡ get_or u i 0 → Up p m c y r → v ≡ set u i r → HeadsRaised p m c (i + 1) w v
-raised_turn p m c i y r w u v il H ey M e =
-    let other : (k : ℕ) → k ≢ i → get_or v k 0 ≡ get_or u k 0 = λ k n. ap (λ (x : List ℕ). get_or x k 0) e ∙ get_or-set_other u i k r 0 n in
-    let here : r ≡ get_or v i 0 = sym (ap (λ (x : List ℕ). get_or x i 0) e ∙ get_or-set_same u i r 0 il) in
-    record {
-      heads = λ s o. elim (ℕ_discrete s i) [
-        | yes z ↦ subst (λ (k : ℕ). Up p m c (get_or w k 0) (get_or v k 0)) (sym z)
-            (subst (λ (k : ℕ). Up p m c k (get_or v i 0)) (ey ∙ H.rest i (omega arith)) (subst (λ (k : ℕ). Up p m c y k) here M))
-        | no z ↦ subst (λ (k : ℕ). Up p m c (get_or w s 0) k) (sym (other s z)) (H.heads s (omega arith))
-      ];
-      rest = λ j o. other j (λ z. omega arith) ∙ H.rest j (omega arith);
-    }
-
-pub nexts-raised-start : (h p m c : ℕ) (w : List ℕ) → NextsRaised h p m c 0 w w
-nexts-raised-start h p m c w = record { nexts = λ q o. absurd (omega arith); entries = λ q. refl; heads = λ s o. refl; rest = λ j o. refl }
-
-pub nexts-raised_turn : (h p m c i y r : ℕ) (w u v : List ℕ) → h + 4 * i + 3 < length u → NextsRaised h p m c i w u → y ≡ next_at u h i → Up p m c y r
-    → v ≡ set u (h + 4 * i + 3) r → NextsRaised h p m c (i + 1) w v
-nexts-raised_turn h p m c i y r w u v il H ey M e =
-    let other : (k : ℕ) → k ≢ h + 4 * i + 3 → get_or v k 0 ≡ get_or u k 0 = λ k n. ap (λ (x : List ℕ). get_or x k 0) e ∙ get_or-set_other u (h + 4 * i + 3) k r 0 n in
-    let here : r ≡ next_at v h i = sym (ap (λ (x : List ℕ). get_or x (h + 4 * i + 3) 0) e ∙ get_or-set_same u (h + 4 * i + 3) r 0 il) in
-    record {
-      nexts = λ q o. elim (ℕ_discrete q i) [
-        | yes z ↦ subst (λ (k : ℕ). Up p m c (next_at w h k) (next_at v h k)) (sym z)
-            (subst (λ (k : ℕ). Up p m c k (next_at v h i)) (ey ∙ H.rest (h + 4 * i + 3) (omega arith)) (subst (λ (k : ℕ). Up p m c y k) here M))
-        | no z ↦ subst (λ (k : ℕ). Up p m c (next_at w h q) k) (sym (other (h + 4 * q + 3) (λ b. z (omega arith)))) (H.nexts q (omega arith))
-      ];
-      entries = λ q. entry_eq (entry_in v h q) (entry_in u h q) (other (h + 4 * q) (λ b. omega arith)) (other (h + 4 * q + 1) (λ b. omega arith)) (other (h + 4 * q + 2) (λ b. omega arith)) ∙ H.entries q;
-      heads = λ s o. other s (λ b. omega arith) ∙ H.heads s o;
-      rest = λ j o. other j (λ b. omega arith) ∙ H.rest j (omega arith);
-    }
-
 pub up_start : (h p m c : ℕ) (w : List ℕ) → MovedUp h p m c m w w
 up_start h p m c w = record { entries = λ q o l. absurd (omega arith); nexts = λ q o l. absurd (omega arith); below = λ q o. refl; rest = λ q o. refl }
 
@@ -604,24 +628,21 @@ up_turn h p m c j x y r w u v j0 jm M ex ey D P =
       rest = λ q o. P.rest q (omega arith) ∙ M.rest q o;
     }
 
-pub gap_made : (h p m c : ℕ) (w w1 w2 w3 : List ℕ) → p ≤ m → HeadsRaised p m c h w w1 → NextsRaised h p m c p w1 w2 → MovedUp h p m c p w2 w3 → GapMade h p m c w w3
-gap_made h p m c w w1 w2 w3 pm H N M =
-    let one : (q : ℕ) → entry_in w1 h q ≡ entry_in w h q =
-    λ q. entry_eq (entry_in w1 h q) (entry_in w h q) (H.rest (h + 4 * q) (omega arith)) (H.rest (h + 4 * q + 1) (omega arith)) (H.rest (h + 4 * q + 2) (omega arith)) in
-    let low : (q : ℕ) → q < p → entry_in w3 h q ≡ entry_in w2 h q =
-    λ q o. entry_eq (entry_in w3 h q) (entry_in w2 h q) (M.below (h + 4 * q) (omega arith)) (M.below (h + 4 * q + 1) (omega arith)) (M.below (h + 4 * q + 2) (omega arith)) in
-    let next : (q : ℕ) → next_at w1 h q ≡ next_at w h q = λ q. H.rest (h + 4 * q + 3) (omega arith) in
+pub gap_made : (h p m c : ℕ) (w u v : List ℕ) → p ≤ m → FrontRelabelled (Up p m c) h p w u → MovedUp h p m c p u v → GapMade h p m c w v
+gap_made h p m c w u v pm F M =
+    let low : (q : ℕ) → q < p → entry_in v h q ≡ entry_in u h q =
+    λ q o. entry_eq (entry_in v h q) (entry_in u h q) (M.below (h + 4 * q) (omega arith)) (M.below (h + 4 * q + 1) (omega arith)) (M.below (h + 4 * q + 2) (omega arith)) in
     record {
-      heads = λ s o. subst (λ (k : ℕ). Up p m c (get_or w s 0) k) (sym (M.below s (omega arith) ∙ N.heads s o)) (H.heads s o);
+      heads = λ s o. subst (λ (k : ℕ). Up p m c (get_or w s 0) k) (sym (M.below s (omega arith))) (F.heads s o);
       lower = λ q o. (
-        low q o ∙ N.entries q ∙ one q,
-        subst (λ (k : ℕ). Up p m c (next_at w h q) k) (sym (M.below (h + 4 * q + 3) (omega arith))) (subst (λ (k : ℕ). Up p m c k (next_at w2 h q)) (next q) (N.nexts q o)),
+        low q o ∙ F.entries q,
+        subst (λ (k : ℕ). Up p m c (next_at w h q) k) (sym (M.below (h + 4 * q + 3) (omega arith))) (F.nexts q o),
       );
       higher = λ q o l. (
-        M.entries q o l ∙ N.entries q ∙ one q,
-        subst (λ (k : ℕ). Up p m c k (next_at w3 h (q + c))) (N.rest (h + 4 * q + 3) (omega arith) ∙ next q) (M.nexts q o l),
+        M.entries q o l ∙ F.entries q,
+        subst (λ (k : ℕ). Up p m c k (next_at v h (q + c))) (F.rest (h + 4 * q + 3) (omega arith)) (M.nexts q o l),
       );
-      rest = λ q o. M.rest q o ∙ N.rest q (omega arith) ∙ H.rest q (omega arith);
+      rest = λ q o. M.rest q o ∙ F.rest q (omega arith);
     }
 
 -- ---- a place linked into its slot's chain
@@ -854,10 +875,10 @@ lead_up f t s a b m p c y r pm small lo hi b1 b2 b3 b4 U L =
 stripe-from : (x d a : ℕ) → 0 < d → x * d ≤ a → x ≤ a / d
 stripe-from x d a pos o = elim (dec_lt (a / d) x) [ yes l ↦ absurd (let z : a < x * d = (div-lt_iff_lt-mul pos).0 l in omega arith) | no l ↦ omega arith ]
 
-module _ (w : List ℕ) (g : Geometry) (next m : ℕ) (hpos : 0 < g.h) (dpos : 0 < g.d) (small : g.e ≤ 4096) (v : valid w g next m ≡ true) (x p c : ℕ) (y : List ℕ)
-    (clean : drop_stripe g.d x (entries w g) ≡ entries w g) (R : m + c ≤ g.e) (P : FirstFrom w g.h m (x * g.d) p) (sg : Segment g.d x c y)
-    (w1 w2 w3 : List ℕ) (l3 : length w3 ≡ g.h + 4 * g.e) (G : GapMade g.h p m c w w1) (L : Filled p c (placed g.e w1 g.h 0) (placed g.e w2 g.h 0) y)
-    (K : KeptFrom (g.h + 4 * (p + c)) w1 w2) (N : LinksKept g.h w1 w2) (I : LinkedIn g.h p p (p + c) w2 w3) where
+module _ (w : List ℕ) (g : Geometry) (next m : ℕ) (hpos : 0 < g.h) (dpos : 0 < g.d) (small : g.e ≤ 4096) (v : valid w g next m ≡ true) (x p : ℕ) (y : List Entry)
+    (clean : drop_stripe g.d x (entries w g) ≡ entries w g) (R : m + length y ≤ g.e) (P : FirstFrom w g.h m (x * g.d) p) (sg : Segment g.d x y)
+    (w1 w2 w3 : List ℕ) (l3 : length w3 ≡ g.h + 4 * g.e) (G : GapMade g.h p m (length y) w w1) (L : Filled p (length y) (placed g.e w1 g.h 0) (placed g.e w2 g.h 0) y)
+    (K : KeptFrom (g.h + 4 * (p + length y)) w1 w2) (N : LinksKept g.h w1 w2) (I : LinkedIn g.h p p (p + length y) w2 w3) where
   abbrev Now : ℕ → ℕ
   Now q = address_at w2 g.h q % g.h
 
@@ -875,46 +896,46 @@ module _ (w : List ℕ) (g : Geometry) (next m : ℕ) (hpos : 0 < g.h) (dpos : 0
       let b : p ≤ m = pm in
       let l1 : length (placed g.e w1 g.h 0) ≡ g.e = length-table g.e 0 (entry_in w1 g.h) in
       let lp : length (take p (placed g.e w1 g.h 0)) ≡ p = length-take-le p (placed g.e w1 g.h 0) (omega arith) in
-      sym (got w2 q (omega arith)) ∙ sym (get_or-take (p + c) (placed g.e w2 g.h 0) q no_entry (omega arith))
-      ∙ ap (λ (z : List Entry). get_or z q no_entry) L.front ∙ get_or-append (take p (placed g.e w1 g.h 0)) (held c 0 y) no_entry q (omega arith)
+      sym (got w2 q (omega arith)) ∙ sym (get_or-take (p + length y) (placed g.e w2 g.h 0) q no_entry (omega arith))
+      ∙ ap (λ (z : List Entry). get_or z q no_entry) L.front ∙ get_or-append (take p (placed g.e w1 g.h 0)) (take (length y) y) no_entry q (omega arith)
       ∙ get_or-take p (placed g.e w1 g.h 0) q no_entry o ∙ got w1 q (omega arith)
 
-  two_high : (q : ℕ) → p ≤ q → q < m → entry_in w2 g.h (q + c) ≡ entry_in w g.h q
+  two_high : (q : ℕ) → p ≤ q → q < m → entry_in w2 g.h (q + length y) ≡ entry_in w g.h q
   two_high q o l =
-      entry_eq (entry_in w2 g.h (q + c)) (entry_in w1 g.h (q + c)) (K (g.h + 4 * (q + c)) (omega arith)) (K (g.h + 4 * (q + c) + 1) (omega arith)) (K (g.h + 4 * (q + c) + 2) (omega arith))
+      entry_eq (entry_in w2 g.h (q + length y)) (entry_in w1 g.h (q + length y)) (K (g.h + 4 * (q + length y)) (omega arith)) (K (g.h + 4 * (q + length y) + 1) (omega arith)) (K (g.h + 4 * (q + length y) + 2) (omega arith))
       ∙ (G.higher q o l).0
 
   slot_low : (q : ℕ) → q < p → Was q ≡ Now q
   slot_low q o = ap (λ (z : Entry). z.address % g.h) (sym (two_low q o ∙ (G.lower q o).0))
 
-  slot_high : (q : ℕ) → p ≤ q → q < m → Was q ≡ Now (q + c)
+  slot_high : (q : ℕ) → p ≤ q → q < m → Was q ≡ Now (q + length y)
   slot_high q o l = ap (λ (z : Entry). z.address % g.h) (sym (two_high q o l))
 
   old : Chained Was g.h m 0 0 w
   old = chained w g next m hpos dpos small v
 
-  chained_gap : Chained Now g.h (m + c) p (p + c) w2
+  chained_gap : Chained Now g.h (m + length y) p (p + length y) w2
   chained_gap =
       let b : p ≤ m = pm in
       record {
         heads = λ s o.
-            subst (λ (k : ℕ). Leads Now s 0 (m + c) p (p + c) k) (sym (N.heads s o))
-            (lead_up Now Was s 0 0 m p c (get_or w s 0) (get_or w1 s 0) pm (omega arith) slot_low slot_high (λ q i j. j) (λ q i j. zero-le) (λ q i j. j) (λ q i j. zero-le) (G.heads s o) (old.heads s o));
+            subst (λ (k : ℕ). Leads Now s 0 (m + length y) p (p + length y) k) (sym (N.heads s o))
+            (lead_up Now Was s 0 0 m p (length y) (get_or w s 0) (get_or w1 s 0) pm (omega arith) slot_low slot_high (λ q i j. j) (λ q i j. zero-le) (λ q i j. j) (λ q i j. zero-le) (G.heads s o) (old.heads s o));
         nexts = λ q o live. elim (dec_lt q p) [
           | yes l ↦
-              subst (λ (k : ℕ). Leads Now (Now q) (q + 1) (m + c) p (p + c) k) (sym (N.nexts q))
-              (lead_up Now Was (Now q) (q + 1) (q + 1) m p c (next_at w g.h q) (next_at w1 g.h q) pm (omega arith) slot_low slot_high (λ j a z. z) (λ j a z. omega arith) (λ j a z. z) (λ j a z. omega arith)
+              subst (λ (k : ℕ). Leads Now (Now q) (q + 1) (m + length y) p (p + length y) k) (sym (N.nexts q))
+              (lead_up Now Was (Now q) (q + 1) (q + 1) m p (length y) (next_at w g.h q) (next_at w1 g.h q) pm (omega arith) slot_low slot_high (λ j a z. z) (λ j a z. omega arith) (λ j a z. z) (λ j a z. omega arith)
               (G.lower q l).1 (subst (λ (k : ℕ). Leads Was k (q + 1) m 0 0 (next_at w g.h q)) (slot_low q l) (old.nexts q (omega arith) (λ z. z))))
           | no l ↦
-              let far : p + c ≤ q = live (omega arith) in
-              let is : q - c + c ≡ q = omega arith in
-              let qm : q - c < m = omega arith in
-              subst (λ (j : ℕ). Leads Now (Now j) (j + 1) (m + c) p (p + c) (next_at w2 g.h j)) is
-              (subst (λ (k : ℕ). Leads Now (Now (q - c + c)) (q - c + c + 1) (m + c) p (p + c) k) (sym (N.nexts (q - c + c)))
-              (lead_up Now Was (Now (q - c + c)) (q - c + 1) (q - c + c + 1) m p c (next_at w g.h (q - c)) (next_at w1 g.h (q - c + c)) pm (omega arith) slot_low slot_high
+              let far : p + length y ≤ q = live (omega arith) in
+              let is : q - length y + length y ≡ q = omega arith in
+              let qm : q - length y < m = omega arith in
+              subst (λ (j : ℕ). Leads Now (Now j) (j + 1) (m + length y) p (p + length y) (next_at w2 g.h j)) is
+              (subst (λ (k : ℕ). Leads Now (Now (q - length y + length y)) (q - length y + length y + 1) (m + length y) p (p + length y) k) (sym (N.nexts (q - length y + length y)))
+              (lead_up Now Was (Now (q - length y + length y)) (q - length y + 1) (q - length y + length y + 1) m p (length y) (next_at w g.h (q - length y)) (next_at w1 g.h (q - length y + length y)) pm (omega arith) slot_low slot_high
               (λ j a z. omega arith) (λ j a z. omega arith) (λ j a z. omega arith) (λ j a z. omega arith)
-              (G.higher (q - c) (omega arith) qm).1
-              (subst (λ (k : ℕ). Leads Was k (q - c + 1) m 0 0 (next_at w g.h (q - c))) (slot_high (q - c) (omega arith) qm) (old.nexts (q - c) qm (λ z. z)))))
+              (G.higher (q - length y) (omega arith) qm).1
+              (subst (λ (k : ℕ). Leads Was k (q - length y + 1) m 0 0 (next_at w g.h (q - length y))) (slot_high (q - length y) (omega arith) qm) (old.nexts (q - length y) qm (λ z. z)))))
         ];
       }
 
@@ -924,35 +945,35 @@ module _ (w : List ℕ) (g : Geometry) (next m : ℕ) (hpos : 0 < g.h) (dpos : 0
     here = ⊎_elim (λ z. inl z) (λ z. inr (z.0, (z.1.0, (z.1.1.0, λ b. b)))) A.here;
   }
 
-  chained_full : Chained Now g.h (m + c) 0 0 w3
+  chained_full : Chained Now g.h (m + length y) 0 0 w3
   chained_full =
       let b : p ≤ m = pm in
-      let C = I.chains Now (m + c) (omega arith) (omega arith) (λ q. refl) chained_gap in
+      let C = I.chains Now (m + length y) (omega arith) (omega arith) (λ q. refl) chained_gap in
       record {
-        heads = λ s o. full Now s 0 (m + c) (get_or w3 s 0) (C.heads s o);
-        nexts = λ q o z. full Now (Now q) (q + 1) (m + c) (next_at w3 g.h q) (C.nexts q o (λ b. b));
+        heads = λ s o. full Now s 0 (m + length y) (get_or w3 s 0) (C.heads s o);
+        nexts = λ q o z. full Now (Now q) (q + 1) (m + length y) (next_at w3 g.h q) (C.nexts q o (λ b. b));
       }
 
-  behind_gap : (i : ℕ) → g.h + 4 * (m + c) ≤ i → i < g.h + 4 * g.e → get_or w3 i 0 ≡ none_word
+  behind_gap : (i : ℕ) → g.h + 4 * (m + length y) ≤ i → i < g.h + 4 * g.e → get_or w3 i 0 ≡ none_word
   behind_gap i o l =
       let b : p ≤ m = pm in
       I.rest i (omega arith) ∙ K i (omega arith) ∙ G.rest i o ∙ unused w g next m hpos dpos small v i (omega arith) l
 
-  opened : Opened g.d x c m (placed g.e w g.h 0) (placed g.e w1 g.h 0) p
+  opened : Opened g.d x (length y) m (placed g.e w g.h 0) (placed g.e w1 g.h 0) p
   opened =
       let b : p ≤ m = pm in
       let f : ℕ → Entry = entry_in w g.h in
       let h1 : ℕ → Entry = entry_in w1 g.h in
-      let z0 : 0 + (p + c) ≡ p + c = omega arith in
+      let z0 : 0 + (p + length y) ≡ p + length y = omega arith in
       let z1 : p + (m - p) ≡ m = omega arith in
       let z2 : 0 + p ≡ p = omega arith in
-      let one-high : (q : ℕ) → q < m - p → entry_in w1 g.h (p + c + q) ≡ entry_in w g.h (p + q) =
-      λ q o. (let e : p + c + q ≡ p + q + c = omega arith in ap h1 e) ∙ (G.higher (p + q) (omega arith) (omega arith)).0 in
+      let one-high : (q : ℕ) → q < m - p → entry_in w1 g.h (p + length y + q) ≡ entry_in w g.h (p + q) =
+      λ q o. (let e : p + length y + q ≡ p + q + length y = omega arith in ap h1 e) ∙ (G.higher (p + q) (omega arith) (omega arith)).0 in
       let front : take p (placed g.e w1 g.h 0) ≡ table p 0 f =
       table-take p g.e 0 h1 (omega arith) ∙ table_ext p 0 h1 f (λ q o l. (G.lower q (omega arith)).0) in
-      let back : take (m - p) (drop (p + c) (placed g.e w1 g.h 0)) ≡ table (m - p) p f =
-      ap (take (m - p)) (table-drop (p + c) g.e 0 h1 (omega arith)) ∙ table-take (m - p) (g.e - (p + c)) (0 + (p + c)) h1 (omega arith)
-      ∙ ap (λ (j : ℕ). table (m - p) j h1) z0 ∙ table_shift (m - p) (p + c) p h1 f one-high in
+      let back : take (m - p) (drop (p + length y) (placed g.e w1 g.h 0)) ≡ table (m - p) p f =
+      ap (take (m - p)) (table-drop (p + length y) g.e 0 h1 (omega arith)) ∙ table-take (m - p) (g.e - (p + length y)) (0 + (p + length y)) h1 (omega arith)
+      ∙ ap (λ (j : ℕ). table (m - p) j h1) z0 ∙ table_shift (m - p) (p + length y) p h1 f one-high in
       record {
         opening = record {
           within = b;
@@ -964,45 +985,42 @@ module _ (w : List ℕ) (g : Geometry) (next m : ℕ) (hpos : 0 < g.h) (dpos : 0
             ((div-lt_iff_lt-mul dpos).1 (P.lower (p - 1) (omega arith)));
       }
 
-  merged-all : table (m + c) 0 (entry_in w2 g.h) ≡ merged c y (entries w g)
+  merged-all : table (m + length y) 0 (entry_in w2 g.h) ≡ merged y (entries w g)
   merged-all =
       let l1 : length (placed g.e w1 g.h 0) ≡ g.e = length-table g.e 0 (entry_in w1 g.h) in
-      sym (table-take (m + c) g.e 0 (entry_in w2 g.h) R)
-      ∙ spread_merged g.d x c m p y (placed g.e w g.h 0) (placed g.e w1 g.h 0) (placed g.e w2 g.h 0) (entries w g) dpos sg
+      sym (table-take (m + length y) g.e 0 (entry_in w2 g.h) R)
+      ∙ spread_merged g.d x m p y (placed g.e w g.h 0) (placed g.e w1 g.h 0) (placed g.e w2 g.h 0) (entries w g) dpos sg
       (entries_rising w g next m hpos dpos small v)
       (λ z n. eqb-false (z.address / g.d) x (drop_in g.d (λ k. eqb k x) z (entries w g) (subst (λ (es : List Entry). InE z es) (sym clean) n)).1)
       (omega arith) (table-take m g.e 0 (entry_in w g.h) (omega arith) ∙ sym (entries_are w g next m hpos dpos small v)) opened L
 
-  pub put_in : w3 ≡ encode g (merged c y (entries w g))
-  put_in = told g hpos small (entry_in w2 g.h) (m + c) R w3 l3 (λ q o. I.entries q) chained_full behind_gap ∙ ap (encode g) merged-all
+  pub put_in : w3 ≡ encode g (merged y (entries w g))
+  put_in = told g hpos small (entry_in w2 g.h) (m + length y) R w3 l3 (λ q o. I.entries q) chained_full behind_gap ∙ ap (encode g) merged-all
 
--- ---- stripe x's entries dropped, which leaves the bytes l, and the c entries of y put in
+-- ---- stripe x's entries dropped from a list, which leaves the bytes l, and the entries y put in
 
-module _ (w : List ℕ) (g : Geometry) (next n : ℕ) (hpos : 0 < g.h) (dpos : 0 < g.d) (small : g.e ≤ 4096) (v : valid w g next n ≡ true) (x c m : ℕ) (y l : List ℕ)
-    (R : Replaces g x c w y) (D : Rewritten g (drop_stripe g.d x (entries w g)) l m) where
-  left_stands : entries (words l) g ≡ drop_stripe g.d x (entries w g)
-  left_stands = ap (λ (z : List ℕ). entries z g) D.1.0 ∙ (dropped w g next n (λ k. eqb k x) hpos dpos small v).stands
+module _ {g : Geometry} {n x m : ℕ} {was l : List ℕ} {y : List Entry} (M : Measures g was) (V : Lists (words was) g n) (R : Replaces g x (words was) y)
+    (D : Rewritten g (drop_stripe g.d x (entries (words was) g)) l m) where
+  left_stands : entries (words l) g ≡ drop_stripe g.d x (entries (words was) g)
+  left_stands = ap (λ (z : List ℕ). entries z g) D.1.0 ∙ (dropped (words was) g V.next n (λ k. eqb k x) M.h0 M.d0 M.e1 V.passing).stands
 
   pub left_lists : Lists (words l) g m
   left_lists =
       record {
-        next = next;
-        passing = ap₂ (λ (z : List ℕ) (k : ℕ). valid z g next k) D.1.0 D.1.1 ∙ (dropped w g next n (λ k. eqb k x) hpos dpos small v).passes;
+        next = V.next;
+        passing = ap₂ (λ (z : List ℕ) (k : ℕ). valid z g V.next k) D.1.0 D.1.1 ∙ (dropped (words was) g V.next n (λ k. eqb k x) M.h0 M.d0 M.e1 V.passing).passes;
       }
 
   pub left_clean : drop_stripe g.d x (entries (words l) g) ≡ entries (words l) g
-  left_clean = ap (drop_stripe g.d x) left_stands ∙ drop-none g.d (λ k. eqb k x) (drop_stripe g.d x (entries w g)) (λ z i. (drop_in g.d (λ k. eqb k x) z (entries w g) i).1) ∙ sym left_stands
+  left_clean = ap (drop_stripe g.d x) left_stands ∙ drop-none g.d (λ k. eqb k x) (drop_stripe g.d x (entries (words was) g)) (λ z i. (drop_in g.d (λ k. eqb k x) z (entries (words was) g) i).1) ∙ sym left_stands
 
-  pub left_room : m + c ≤ g.e
-  left_room = let a : m ≡ length (drop_stripe g.d x (entries w g)) = D.1.1 in let b = R.room in omega arith
-
-  pub left_replaces : Replaces g x c (words l) y
+  pub left_replaces : Replaces g x (words l) y
   left_replaces =
-      let a : length (drop_stripe g.d x (entries (words l) g)) ≡ length (drop_stripe g.d x (entries w g)) = ap length (left_clean ∙ left_stands) in
-      record { there = R.there; room = (let b = R.room in omega arith); long = R.long; segment = R.segment }
+      let a : length (drop_stripe g.d x (entries (words l) g)) ≡ length (drop_stripe g.d x (entries (words was) g)) = ap length (left_clean ∙ left_stands) in
+      record { there = R.there; room = (let b = R.room in omega arith); segment = R.segment }
 
-  pub left_rewritten : (u : List ℕ) → words u ≡ encode g (merged c y (entries (words l) g)) → length u ≡ 4 * (g.h + 4 * g.e) → ((i : ℕ) → get_or u i 0 < 256)
-      → Rewritten g (merged c y (drop_stripe g.d x (entries w g))) u (m + c)
+  pub left_rewritten : (u : List ℕ) → words u ≡ encode g (merged y (entries (words l) g)) → length u ≡ 4 * (g.h + 4 * g.e) → ((i : ℕ) → get_or u i 0 < 256)
+      → Rewritten g (merged y (drop_stripe g.d x (entries (words was) g))) u (m + length y)
   left_rewritten u e long low =
-      let is : words u ≡ encode g (merged c y (drop_stripe g.d x (entries w g))) = e ∙ ap (λ (es : List Entry). encode g (merged c y es)) left_stands in
-      (sym (bytes-words u (g.h + 4 * g.e) long low) ∙ ap bytes_of is, (is, ap (λ (k : ℕ). k + c) D.1.1 ∙ sym (length_merged c y (drop_stripe g.d x (entries w g)))))
+      let is : words u ≡ encode g (merged y (drop_stripe g.d x (entries (words was) g))) = e ∙ ap (λ (es : List Entry). encode g (merged y es)) left_stands in
+      (sym (bytes-words u (g.h + 4 * g.e) long low) ∙ ap bytes_of is, (is, ap (λ (k : ℕ). k + length y) D.1.1 ∙ sym (length_merged y (drop_stripe g.d x (entries (words was) g)))))

@@ -1,14 +1,21 @@
--- The listed places of a list that passes number 3 rise in address: the first place from an address on, found by halving, and what the list says of an
+-- The listed places of a list that passes number 3 rise in address: the first place from an address on, and what the list says of an
 -- address, from that place.
 -- Assumes nothing.
-use mathlib.Core.Bool.{true}
-use mathlib.Core.List.{List}
+use mathlib.Core.Bool.{Bool, true, false}
+use mathlib.Core.List.{List, []}
 use mathlib.Core.Logic.{◌≢◌}
-use mathlib.Core.Path.{◌≡◌, sym, ap, ◌∙◌}
-use Prim.Native.Nat.{ℕ, ◌+◌, ◌≤◌, ◌<◌}
+use mathlib.Core.Path.{◌≡◌, refl, sym, ap, ◌∙◌, subst}
+use Prim.Native.Nat.{ℕ, zero, suc, ◌+◌, ◌*◌, ◌-◌, ◌/◌, ◌≤◌, ◌<◌}
 use native.Mathlib.Decide.{dec_lt}
 use native.Mathlib.Omega.{arith}
-use lib.ListN.{length}
+use lib.Dec.{ltb}
+use lib.ListN.{length, get_or, take, drop}
+use lib.Seq.{get_or-take, get_or-drop, length-take-le}
+use borrow.Author.Tests.{lt-ltb, ltb-true, ltb-false}
+use Rattle.std.specs.Simd.{first_chunks}
+use Rattle.std.specs.List.Sorted.{IsPartitionedBy, IsPartitionPoint}
+use Rattle.std.proofs.lemmas.List.{drop-drop, length-drop}
+use Rattle.shelf.proofs.hashlist.WordLaws.{words-take, words-drop}
 use Rattle.shelf.specs.declared.record.Geometry.{Geometry}
 use Rattle.shelf.specs.Words.{words}
 use Rattle.shelf.specs.below.Checking.{HasPlace}
@@ -28,21 +35,38 @@ lists-room l g n m v = listed_room (words l) g v.next n m.h0 m.d0 m.e1 v.passing
 pub place_within : (l : List ℕ) (g : Geometry) (n : ℕ) → Measures g l → Lists (words l) g n → (p : ℕ) → p < n → HasPlace g.h p (length l)
 place_within l g n m v p h = let room = lists-room l g n m v in (m.h1, (omega (arith, room, m.e1), omega (arith, room, m.len)))
 
--- what is left to halve: the places below low have lower addresses than a, those from high on have not
-pub record Halved (w : List ℕ) (h n a low high : ℕ) : Type 0 where
-  pub order : low ≤ high
-  pub within : high ≤ n
-  pub lower : (q : ℕ) → q < low → address_at w h q < a
-  pub higher : (q : ℕ) → high ≤ q → q < n → a ≤ address_at w h q
+-- ---- the first n places as parts of sixteen bytes
 
-pub halved_start : (w : List ℕ) (h n a : ℕ) → Halved w h n a 0 n
-halved_start w h n a = record { order = omega arith; within = omega arith; lower = λ q o. absurd (omega arith); higher = λ q o l. absurd (omega arith) }
+abbrev pub place_parts : List ℕ → ℕ → ℕ → List (List ℕ)
+place_parts l h n = take n (first_chunks 16 (length (drop (4 * h) l) / 16) (drop (4 * h) l))
 
-pub halved_end : (w : List ℕ) (h n a low high : ℕ) → high ≤ low → Halved w h n a low high → FirstFrom w h n a low
-halved_end w h n a low high o H =
-    let s : low ≤ high = H.order in
-    let t : high ≤ n = H.within in
-    record { within = omega arith; lower = H.lower; higher = λ q u l. H.higher q (omega arith) l }
+chunk_at : (m i x : ℕ) (xs d : List ℕ) → i < m → x ≡ 16 * i → get_or (first_chunks 16 m xs) i d ≡ take 16 (drop x xs)
+chunk_at zero i x xs d o e = absurd (omega arith)
+chunk_at (suc m) zero x xs d o e = let z : x ≡ 0 = omega arith in rw z refl
+chunk_at (suc m) (suc i) x xs d o e =
+    let z : 16 + 16 * i ≡ x = omega arith in
+    chunk_at m i (16 * i) (drop 16 xs) d (omega arith) refl ∙ ap (take 16) (drop-drop (16 * i) 16 xs ∙ ap (λ (k : ℕ). drop k xs) z)
+
+length-chunks : (m : ℕ) (xs : List ℕ) → length (first_chunks 16 m xs) ≡ m
+length-chunks zero xs = refl
+length-chunks (suc m) xs = ap suc (length-chunks m (drop 16 xs))
+
+-- each has its address in front
+part_address : (l d : List ℕ) (h n i : ℕ) → i < n → 4 * (h + 4 * n) ≤ length l → get_or (words (get_or (place_parts l h n) i d)) 0 0 ≡ address_at (words l) h i
+part_address l d h n i o long =
+    let b : List ℕ = drop (4 * h) l in
+    let m : ℕ = length b / 16 in
+    let lb : length b ≡ length l - 4 * h = length-drop (4 * h) l in
+    let im : i < m = omega arith in
+    let z : h + (4 * i + 0) ≡ h + 4 * i = omega arith in
+    ap (λ (x : List ℕ). get_or (words x) 0 0) (get_or-take n (first_chunks 16 m b) i d o ∙ chunk_at m i (16 * i) b d im refl)
+    ∙ ap (λ (w : List ℕ). get_or w 0 0) (words-take (drop (16 * i) b) 4 16 refl)
+    ∙ get_or-take 4 (words (drop (16 * i) b)) 0 0 (omega arith)
+    ∙ ap (λ (w : List ℕ). get_or w 0 0) (words-drop b (4 * i) (16 * i) (omega arith))
+    ∙ get_or-drop (4 * i) (words b) 0 0
+    ∙ ap (λ (w : List ℕ). get_or w (4 * i + 0) 0) (words-drop l h (4 * h) refl)
+    ∙ get_or-drop h (words l) (4 * i + 0) 0
+    ∙ ap (λ (k : ℕ). get_or (words l) k 0) z
 
 module _ (w : List ℕ) (g : Geometry) (next listed : ℕ) (hpos : 0 < g.h) (dpos : 0 < g.d) (small : g.e ≤ 4096)
     (v : valid w g next listed ≡ true) where
@@ -70,33 +94,42 @@ module _ (w : List ℕ) (g : Geometry) (next listed : ℕ) (hpos : 0 < g.h) (dpo
       let m : length (entries w g) ≡ listed = many in
       stands_in w g.h 0 (entries w g) q stand (omega arith) (omega arith)
 
-  -- ---- halving, by the address b of a place p between
+  -- ---- those with a lower address than a stand first, and are as many as the first place from a on says
 
-  module _ (a low high p b : ℕ) (H : Halved w g.h listed a low high) (l : low ≤ p) (u : p < high) (is : b ≡ A p) where
-    pub halved_up : b < a → Halved w g.h listed a (p + 1) high
-    halved_up o =
-        let t : high ≤ listed = H.within in
-        record {
-          order = omega arith;
-          within = t;
-          lower = λ q z. elim (dec_lt q p) [
-            | yes y ↦ let k = rises_to q p y (omega arith) in omega arith
-            | no y ↦ let k : q ≡ p = omega arith in rw k (omega arith)
-          ];
-          higher = H.higher;
-        }
+  module _ (l : List ℕ) (ws : words l ≡ w) (long : 4 * (g.h + 4 * listed) ≤ length l) (a : ℕ) where
+    below : List ℕ → Bool
+    below x = ltb (get_or (words x) 0 0) a
 
-    pub halved_down : a ≤ b → Halved w g.h listed a low p
-    halved_down o =
-        let t : high ≤ listed = H.within in
+    part : (i : ℕ) (d : List ℕ) → i < listed → get_or (words (get_or (place_parts l g.h listed) i d)) 0 0 ≡ A i
+    part i d o = part_address l d g.h listed i o long ∙ ap (λ (u : List ℕ). address_at u g.h i) ws
+
+    parts-many : length (place_parts l g.h listed) ≡ listed
+    parts-many =
+        let b : List ℕ = drop (4 * g.h) l in
+        let lb : length b ≡ length l - 4 * g.h = length-drop (4 * g.h) l in
+        let m : length (first_chunks 16 (length b / 16) b) ≡ length b / 16 = length-chunks (length b / 16) b in
+        length-take-le listed (first_chunks 16 (length b / 16) b) (omega arith)
+
+    pub parts-parted : IsPartitionedBy (λ x. ltb (get_or (words x) 0 0) a) (place_parts l g.h listed)
+    parts-parted i j d o m t =
+        let k : length (place_parts l g.h listed) ≡ listed = parts-many in
+        let jl : j < listed = omega arith in
+        let low : A j < a = subst (λ (y : ℕ). y < a) (part j d jl) (ltb-true _ a t) in
+        lt-ltb _ a (subst (λ (y : ℕ). y < a) (sym (part i d (omega arith)))
+        (elim (dec_lt i j) [
+          | yes y ↦ let r = rises_to i j y jl in omega arith
+          | no y ↦ let e : i ≡ j = omega arith in rw e low
+        ]))
+
+    pub parts-first : (p : ℕ) → p ≤ length (place_parts l g.h listed)
+        → IsPartitionPoint (λ x. ltb (get_or (words x) 0 0) a ≡ true) (λ x. ltb (get_or (words x) 0 0) a ≡ false) (place_parts l g.h listed) p
+        → FirstFrom w g.h listed a p
+    parts-first p o P =
+        let k : length (place_parts l g.h listed) ≡ listed = parts-many in
         record {
-          order = l;
           within = omega arith;
-          lower = H.lower;
-          higher = λ q z y. elim (dec_lt p q) [
-            | yes x ↦ let k = rises_to p q x y in omega arith
-            | no x ↦ let k : q ≡ p = omega arith in rw k (omega arith)
-          ];
+          lower = λ q u. subst (λ (y : ℕ). y < a) (part q [] (omega arith)) (ltb-true _ a (P.0 q [] (omega arith) u));
+          higher = λ q u v. subst (λ (y : ℕ). a ≤ y) (part q [] v) (ltb-false _ a (P.1 q [] u (omega arith)));
         }
 
   -- ---- what the list says of address a, from the first place p whose address is a or above

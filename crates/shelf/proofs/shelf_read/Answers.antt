@@ -1,66 +1,32 @@
 -- `shelf::shelf_read` meets its contract.
 -- Assumes nothing.
-use mathlib.Core.Path.{◌≡◌, ◌∙◌, refl, sym}
+use mathlib.Core.Path.{◌≡◌, refl, sym}
 use native.Mathlib.Omega.{arith}
 use lib.ListN.{length}
-use Rattle.shelf.specs.Lent.{lent, state_of, tries_list, number_of}
+use Rattle.shelf.specs.Lent.{state_of, tries_list, number_of}
 use Rattle.shelf.specs.Status.{read, code_of}
 use Rattle.shelf.specs.Calls.{work}
-use Rattle.shelf.proofs.lent.LeavesLaws.{refused_answered, kept_answered}
+use Rattle.shelf.proofs.lent.AnswerLaws.{accepted_answer}
+use Rattle.shelf.proofs.lent.LeavesLaws.{kept_answered}
 use Rattle.shelf.proofs.calls.ServedLaws.{blocks-ready}
 use borrow.Author.Rules.{rules}
 use Rattle.shelf.proofs.shelf_read.Goals as goal
 
-pub returns-then-code-ne0-clause-answered : goal.returns-then-code-ne0-clause-answered
-returns-then-code-ne0-clause-answered c =
-    let a = c in
-    refused_answered (lent a.args.shelf a.args.array.now a.args.log.now a.args.list.now) (read a.args.address a.args.count (length a.args.out.now)) c.number_of-code.result c.number_of-code.ensures c.if-code-ne0.true
-
-pub returns-then-code-ne0-clause-out_after : goal.returns-then-code-ne0-clause-out_after
-returns-then-code-ne0-clause-out_after c = λ z. absurd (c.if-code-ne0.true z)
-
-pub returns-then-code-ne0-clause-out_unchanged : goal.returns-then-code-ne0-clause-out_unchanged
-returns-then-code-ne0-clause-out_unchanged c = λ _. refl
-
-pub read_blocks-requires-clause-in_range : goal.read_blocks-requires-clause-in_range
+pub read_blocks-requires : goal.read_blocks-requires
 unfolding number_of tries_list code_of
-read_blocks-requires-clause-in_range c =
-    let a = c in
-    let y = blocks-ready a.args.shelf a.args.array.now a.args.log.now a.args.list.now a.args.address a.args.count (length a.args.out.now) _ (sym c.number_of-code.ensures ∙ c.if-code-ne0.false) in
-    y.0.listing.range
-
-pub read_blocks-requires-clause-array_len : goal.read_blocks-requires-clause-array_len
-unfolding number_of tries_list code_of
-read_blocks-requires-clause-array_len c =
-    let a = c in
-    let y = blocks-ready a.args.shelf a.args.array.now a.args.log.now a.args.list.now a.args.address a.args.count (length a.args.out.now) _ (sym c.number_of-code.ensures ∙ c.if-code-ne0.false) in
-    y.0.array
-
-pub read_blocks-requires-clause-n_bound : goal.read_blocks-requires-clause-n_bound
-unfolding number_of tries_list code_of
-read_blocks-requires-clause-n_bound c =
-    let a = c in
-    let y = blocks-ready a.args.shelf a.args.array.now a.args.log.now a.args.list.now a.args.address a.args.count (length a.args.out.now) _ (sym c.number_of-code.ensures ∙ c.if-code-ne0.false) in
-    y.1.0
-
-pub read_blocks-requires-clause-out_len : goal.read_blocks-requires-clause-out_len
-unfolding number_of tries_list code_of
-read_blocks-requires-clause-out_len c =
-    let a = c in
-    let y = blocks-ready a.args.shelf a.args.array.now a.args.log.now a.args.list.now a.args.address a.args.count (length a.args.out.now) _ (sym c.number_of-code.ensures ∙ c.if-code-ne0.false) in
-    y.1.1
+read_blocks-requires c =
+    let a = c.args in
+    let y = blocks-ready a.shelf a.array.now a.log.now a.list.now a.address a.count (length a.out.now) _ (sym c.in_default.ensures) in
+    record { in_range = y.0.listing.range; array_len = y.0.array; n_bound = y.1.0; out_len = y.1.1 }
 
 pub returns-clause-answered : goal.returns-clause-answered
-unfolding state_of work tries_list
+unfolding work tries_list
 returns-clause-answered c =
-    let a = c in
-    let long : length a.args.shelf.failed ≡ 19 = search rules in
-    kept_answered a.args.shelf a.args.array.now a.args.log.now a.args.list.now long (λ i. omega (arith, c.shared_slice_known-3-1.given i)) (read a.args.address a.args.count (length a.args.out.now)) refl refl (sym c.if-code-ne0.false ∙ c.number_of-code.ensures)
+    let a = c.args in
+    let long : length a.shelf.failed ≡ 19 = search rules in
+    accepted_answer c.accepted.ensures refl
+    (kept_answered a.shelf a.array.now a.log.now a.list.now long (λ i. omega (arith, c.type_inv.list i)) (read a.address a.count (length a.out.now)) refl refl c.in_default.ensures)
 
 pub returns-clause-out_after : goal.returns-clause-out_after
-unfolding state_of work tries_list
+unfolding state_of
 returns-clause-out_after c = λ _. c.read_blocks.ensures
-
-pub returns-clause-out_unchanged : goal.returns-clause-out_unchanged
-unfolding state_of work tries_list
-returns-clause-out_unchanged c = λ z. absurd (z refl)

@@ -1,6 +1,6 @@
 -- Number 3 as the code tests it: place by place, and chain by chain.
 -- Assumes nothing.
-use Rattle.std.specs.Prelude.{ℕ, zero, suc, ◌+◌, ◌-◌, ◌*◌, ◌%◌, ◌≤◌, ◌<◌, Bool, true, false, ◌&&◌, ◌||◌, List, ◌≡◌, ltb, leb, eqb, get_or}
+use Rattle.std.specs.Prelude.{ℕ, zero, suc, ◌+◌, ◌-◌, ◌*◌, ◌%◌, ◌≤◌, ◌<◌, Bool, true, false, ◌&&◌, ◌||◌, List, ltb, leb, eqb, get_or}
 use Rattle.shelf.specs.declared.record.Geometry.{Geometry}
 use Rattle.shelf.specs.Counting.{choose}
 use Rattle.shelf.specs.below.Tables.{every}
@@ -15,10 +15,6 @@ HasPlace h p n = (h ≤ 256) × ((p < 4096) × (4 * (h + 4 * p) + 16 ≤ n))
 -- the addresses of the first n places are below 1048576, which 16 data disks of 65536 stripes have
 abbrev pub LowTo : List ℕ → ℕ → ℕ → Type 0
 LowTo w h n = (q : ℕ) → q < n → address_at w h q < 1048576
-
--- the least address that place p may have, above that of the place before
-unfoldable pub lowest : List ℕ → ℕ → ℕ → ℕ
-lowest w h p = choose (eqb p 0) 0 (address_at w h (p - 1) + 1)
 
 -- an address below d * s; Ori none or below next, and so is Cur
 unfoldable pub in_range : Geometry → ℕ → ℕ → ℕ → ℕ → Bool
@@ -50,13 +46,6 @@ unused w h p =
 -- the words from i on, below k, are none
 unfoldable pub none_words : List ℕ → ℕ → ℕ → Bool
 none_words w i k = every (k - i) (λ j. eqb (get_or w (i + j) 0) none_word)
-
--- of the bytes from a on, below j, all are 255 where low is, and only there
-pub record NoneTo (l : List ℕ) (a j low : ℕ) : Type 0 where
-  pub most : low ≤ 255
-  pub bytes : (q : ℕ) → a ≤ q → q < j → get_or l q 0 < 256
-  pub all : low ≡ 255 → (q : ℕ) → a ≤ q → q < j → get_or l q 0 ≡ 255
-  pub only : ((q : ℕ) → a ≤ q → q < j → get_or l q 0 ≡ 255) → low ≡ 255
 
 -- place p is as it must be, where the first n are listed
 unfoldable pub fine : List ℕ → Geometry → ℕ → ℕ → ℕ → Bool

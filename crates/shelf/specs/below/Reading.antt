@@ -1,19 +1,19 @@
 -- Words for the contracts of the functions that read and fetch are made of: what they ask of what is lent, and the blocks of a
 -- stripe told by numbers.
 -- Assumes nothing.
-use Rattle.std.specs.Prelude.{Bool, true, not, ◌&&◌, List, ◌≡◌, ℕ, zero, suc, ◌+◌, ◌*◌, ◌≤◌, ◌<◌, eqb, ltb, length}
+use Rattle.std.specs.Prelude.{Bool, true, not, ◌&&◌, List, ◌≡◌, ℕ, zero, suc, ◌+◌, ◌*◌, ◌≤◌, ◌<◌, ltb, Option, None, length, get_or}
 use Rattle.stripe.specs.Blocks.{gen, put}
 use Rattle.stripe.specs.Parity.{solved}
 use Rattle.stripe.specs.below.Tables.{Tabled}
-use Rattle.stripe.specs.below.Steps.{Products}
 use Rattle.shelf.specs.Counting.{choose}
 use Rattle.shelf.specs.below.Tables.{Tests}
 use Rattle.shelf.specs.Members.{InRange, array_members, place_at, address_of, column, worked_back}
 use Rattle.shelf.specs.State.{is_some}
 use Rattle.shelf.specs.Calls.{or_else, original, missing, block_at}
 use Rattle.shelf.specs.Words.{words}
-use Rattle.shelf.specs.HashList.{none_word, said, valid}
+use Rattle.shelf.specs.HashList.{valid}
 use Rattle.shelf.specs.Lent.{Lent, state_of, ori_by, listed_by, array_length, log_length, list_length}
+use Rattle.shelf.specs.below.Entries.{records_of, latest}
 use Rattle.shelf.specs.below.Records.{failed_role}
 use Rattle.shelf.specs.declared.record.Geometry.{Geometry}
 use Rattle.shelf.specs.declared.record.Shelf.{Shelf}
@@ -32,9 +32,9 @@ pub record Ready (h : Lent) : Type 0 where
   pub array : length h.array ≡ array_length h.shelf.geometry
   pub log : length h.log ≡ log_length h.shelf.geometry
 
--- the log record that has the latest value of address a: Cur, else Ori, else none
-unfoldable pub latest : List ℕ → Geometry → ℕ → ℕ
-latest w g a = choose (eqb (said w g a).cur none_word) (said w g a).ori (said w g a).cur
+-- the log record that has the latest value of the block with data index i of stripe x, by the list
+abbrev pub latest_by : Geometry → List ℕ → ℕ → ℕ → Option ℕ
+latest_by g l x i = latest (records_of (words l) g (address_of g x i))
 
 -- the block number of the original of role i, over the array with the log behind it: Ori's record, else the array's block
 unfoldable pub original_place : Geometry → List ℕ → ℕ → ℕ → ℕ
@@ -49,22 +49,9 @@ missing_by r l x i =
 
 -- the tables of a stripe's sources: the log records of the latest values, the block numbers of the originals, and which of these are missing
 pub record SourcesOf (r : Shelf) (l : List ℕ) (x : ℕ) (s : Sources) : Type 0 where
-  pub newest : Tabled r.geometry.d (λ i. latest (words l) r.geometry (address_of r.geometry x i)) s.latest
+  pub newest : (i : ℕ) → i < r.geometry.d → get_or s.latest i None ≡ latest_by r.geometry l x i
   pub numbers : Tabled (array_members r.geometry) (original_place r.geometry l x) s.originals
   pub lacking : Tests (array_members r.geometry) (missing_by r l x) s.missing
-
--- what is lent is ready, the working block has the length of a block, and the table of products is one
-pub record Working (h : Lent) (work table : List ℕ) : Type 0 where
-  pub ready : Ready h
-  pub block : length work ≡ h.shelf.geometry.b
-  pub products : Products table
-
--- and so for the block with data index i of stripe x, whose sources are s
-pub record WorkingAt (h : Lent) (x i : ℕ) (s : Sources) (work table : List ℕ) : Type 0 where
-  pub working : Working h work table
-  pub stripe : x < h.shelf.geometry.s
-  pub index : i < h.shelf.geometry.d
-  pub sources : SourcesOf h.shelf h.list x s
 
 -- the block with data index i of stripe x, solved from the stripe's originals where role y is missing too, or is i itself
 unfoldable pub solved_block : Lent → ℕ → ℕ → ℕ → List ℕ

@@ -1,19 +1,19 @@
 -- Words for the contracts of the functions that a rebuild is made of: what they ask of what is lent; the array with blocks filled as a fetch gives
 -- them, one after another and stripe after stripe, and the record and the list after it.
 -- Assumes nothing.
-use Rattle.std.specs.Prelude.{Bool, true, List, ◌≡◌, ℕ, zero, suc, ◌≤◌, ◌<◌, ltb}
+use Rattle.std.specs.Prelude.{Bool, true, List, ◌≡◌, ℕ, zero, suc, ◌≤◌, ◌<◌, None}
 use Rattle.stripe.specs.Blocks.{put}
 use Rattle.stripe.specs.Places.{parity_made}
 use Rattle.shelf.specs.Counting.{choose, count, any}
-use Rattle.shelf.specs.Members.{array_members, place_at, address_of}
+use Rattle.shelf.specs.Members.{array_members, place_at}
 use Rattle.shelf.specs.Status.{withheld}
 use Rattle.shelf.specs.Calls.{parity_failed}
 use Rattle.shelf.specs.Words.{words}
-use Rattle.shelf.specs.HashList.{none_word, Entry, entries}
+use Rattle.shelf.specs.HashList.{Entry, entries}
 use Rattle.shelf.specs.Lent.{Lent, lent, flag_at, listed_by, array_block}
 use Rattle.shelf.specs.below.Rewriting.{drop_stripes}
 use Rattle.shelf.specs.below.Records.{failed_role, with_listed, with_cleared}
-use Rattle.shelf.specs.below.Reading.{Ready, latest, served_block}
+use Rattle.shelf.specs.below.Reading.{Ready, latest_by, served_block}
 use Rattle.shelf.specs.declared.record.Shelf.{Shelf}
 
 -- ---- of one stripe: a parity is on a failed member; a data block is; row 14 applies to a data block
@@ -36,16 +36,12 @@ pub record Rebuildable (h : Lent) : Type 0 where
 
 -- the block of data index i of stripe x is on a failed member and not in the log
 abbrev pub Lost : Shelf → List ℕ → ℕ → ℕ → Type 0
-Lost r l x i = (failed_role r x i ≡ true) × (latest (words l) r.geometry (address_of r.geometry x i) ≡ none_word)
+Lost r l x i = (failed_role r x i ≡ true) × (latest_by r.geometry l x i ≡ None)
 
 -- the data blocks of stripe x below i that are on failed members are filled
 abbrev pub FilledBelow : Lent → ℕ → ℕ → Type 0
 FilledBelow h x i =
     (k : ℕ) → k < i → failed_role h.shelf x k ≡ true → array_block h.shelf.geometry h.array x k ≡ served_block h x k
-
--- the missing role beside i, unless it is one of those filled; else i itself
-abbrev pub still_missing : ℕ → ℕ → ℕ
-still_missing i y = choose (ltb y i) i y
 
 -- ---- the array
 

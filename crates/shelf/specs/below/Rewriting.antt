@@ -1,6 +1,7 @@
--- What the functions that alter a list promise: entries dropped and put in, entries in a slice, and how they are moved in the list's own places.
+-- What the functions that alter a list promise: entries dropped and put in, and how they are moved in the list's own places.
 -- Assumes nothing.
 use Rattle.std.specs.Prelude.{ℕ, zero, suc, ◌+◌, ◌*◌, ◌-◌, ◌/◌, ◌%◌, ◌≤◌, ◌<◌, ◌≡◌, Bool, true, false, List, [], ◌∷◌, ◌++◌, ◌⊎◌, ◌≢◌, ltb, eqb, length, get_or, set, take, drop}
+use Rattle.std.specs.Prelude.{Option, None, Some}
 use Rattle.shelf.specs.declared.record.Geometry.{Geometry}
 use Rattle.shelf.specs.Counting.{choose}
 use Rattle.shelf.specs.Words.{words, bytes_of}
@@ -25,37 +26,32 @@ insert_e y (x ∷ xs) = elim (ltb x.address y.address) [ true ↦ x ∷ insert_e
 abbrev pub Rewritten : Geometry → List Entry → List ℕ → ℕ → Type 0
 Rewritten g es l n = (l ≡ bytes_of (encode g es)) × ((words l ≡ encode g es) × (n ≡ length es))
 
--- ---- entries in a slice of numbers, three to an entry
+-- ---- new entries put among others
 
--- entry i
-abbrev pub at3 : List ℕ → ℕ → Entry
-at3 x i = entry (get_or x (3 * i) 0) (get_or x (3 * i + 1) 0) (get_or x (3 * i + 2) 0)
+-- the entries ys put among rising entries
+unfoldable pub merged : List Entry → List Entry → List Entry
+merged [] es = es
+merged (y ∷ ys) es = insert_e y (merged ys es)
+
+-- entry i of some
+abbrev pub nth : List Entry → ℕ → Entry
+nth ys i = get_or ys i (entry 0 0 0)
+
+-- the entries ys are of stripe k, and rising
+pub record Segment (d k : ℕ) (ys : List Entry) : Type 0 where
+  pub stripe : (j : ℕ) → j < length ys → (nth ys j).address / d ≡ k
+  pub up : (i j : ℕ) → i < j → j < length ys → (nth ys i).address < (nth ys j).address
+
+-- the entries ys may take the place of stripe k's in the list w: they are of stripe k and rising, and the list has places for them
+pub record Replaces (g : Geometry) (k : ℕ) (w : List ℕ) (ys : List Entry) : Type 0 where
+  pub there : k < g.s
+  pub room : length (drop_stripe g.d k (entries w g)) + length ys ≤ g.e
+  pub segment : Segment g.d k ys
 
 -- n entries of a table, from entry i on
 unfoldable pub table : ℕ → ℕ → (ℕ → Entry) → List Entry
 table zero i f = []
 table (suc n) i f = f i ∷ table n (i + 1) f
-
--- n entries of a slice, from entry i on
-abbrev pub held : ℕ → ℕ → List ℕ → List Entry
-held n i x = table n i (at3 x)
-
--- the first j entries of a slice put among rising entries
-unfoldable pub merged : ℕ → List ℕ → List Entry → List Entry
-merged zero x es = es
-merged (suc j) x es = insert_e (at3 x j) (merged j x es)
-
--- the first c entries of a slice are of stripe k, and rising
-pub record Segment (d k c : ℕ) (x : List ℕ) : Type 0 where
-  pub stripe : (j : ℕ) → j < c → (at3 x j).address / d ≡ k
-  pub up : (i j : ℕ) → i < j → j < c → (at3 x i).address < (at3 x j).address
-
--- the c entries of y may take the place of stripe k's in the list w: they are of stripe k and rising, and the list has places for them
-pub record Replaces (g : Geometry) (k c : ℕ) (w y : List ℕ) : Type 0 where
-  pub there : k < g.s
-  pub room : length (drop_stripe g.d k (entries w g)) + c ≤ g.e
-  pub long : 3 * c ≤ length y
-  pub segment : Segment g.d k c y
 
 -- ---- as the code does it, in the list's own places
 
@@ -63,9 +59,9 @@ pub record Replaces (g : Geometry) (k c : ℕ) (w y : List ℕ) : Type 0 where
 abbrev pub placed : ℕ → List ℕ → ℕ → ℕ → List Entry
 placed n w h p = table n p (entry_in w h)
 
--- the words w with the three words of an entry from word b on
-abbrev pub put3 : List ℕ → ℕ → ℕ → ℕ → ℕ → List ℕ
-put3 w b a o c = set (set (set w b a) (b + 1) o) (b + 2) c
+-- the words w with the three words of the entry x from word b on
+abbrev pub put_entry : List ℕ → ℕ → Entry → List ℕ
+put_entry w b x = set (set (set w b x.address) (b + 1) x.ori) (b + 2) x.cur
 
 -- the words v are the words w with none for those from i on, below k
 pub record Blanked (i k : ℕ) (w v : List ℕ) : Type 0 where
@@ -83,11 +79,11 @@ pub record LinksKept (h : ℕ) (w v : List ℕ) : Type 0 where
   pub heads : (s : ℕ) → s < h → get_or v s 0 ≡ get_or w s 0
   pub nexts : (q : ℕ) → next_at v h q ≡ next_at w h q
 
--- of n listed places the c from p on have the addresses of the c entries of a slice, and the one behind them has an address from b on
-pub record InPlace (h n b p c : ℕ) (w y : List ℕ) : Type 0 where
-  pub within : p + c ≤ n
-  pub behind : p + c < n → b ≤ address_at w h (p + c)
-  pub here : (j : ℕ) → j < c → address_at w h (p + j) ≡ (at3 y j).address
+-- of n listed places those from p on, as many as ys, have the addresses of the entries ys, and the one behind them has an address from b on
+pub record InPlace (h n b p : ℕ) (w : List ℕ) (ys : List Entry) : Type 0 where
+  pub within : p + length ys ≤ n
+  pub behind : p + length ys < n → b ≤ address_at w h (p + length ys)
+  pub here : (j : ℕ) → j < length ys → address_at w h (p + j) ≡ (nth ys j).address
 
 -- of e places behind h slot heads, all words of those neither among the first m nor among the first n are none
 abbrev pub NoneBehind : ℕ → ℕ → ℕ → ℕ → List ℕ → Type 0
@@ -110,9 +106,9 @@ pub record Opened (d k c n : ℕ) (t u : List Entry) (i : ℕ) : Type 0 where
   pub opening : Opening d k c n t u i
   pub lower : 0 < i → (get_or u (i - 1) (entry 0 0 0)).address / d < k
 
--- the table u is t with the first j entries of a slice from place i on
-pub record Filled (i j : ℕ) (t u : List Entry) (y : List ℕ) : Type 0 where
-  pub front : take (i + j) u ≡ take i t ++ held j 0 y
+-- the table u is t with the first j of the entries ys from place i on
+pub record Filled (i j : ℕ) (t u ys : List Entry) : Type 0 where
+  pub front : take (i + j) u ≡ take i t ++ take j ys
   pub back : (c : ℕ) → j ≤ c → drop (i + c) u ≡ drop (i + c) t
 
 -- ---- links: what slot heads and Next words say, over places of which f tells the slot
@@ -139,27 +135,31 @@ without h p t n w = table (n - (t - p)) 0 (λ q. entry_in w h (skip p t q))
 abbrev pub Gap : ℕ → ℕ → ℕ → ℕ → Type 0
 Gap h p t l = (p ≤ t) × ((t ≤ 4096) × ((h ≤ 256) × (4 * (h + 4 * t) ≤ l)))
 
--- the Next words of the places from p on, below t, lead upwards
-abbrev pub Upward : ℕ → ℕ → ℕ → List ℕ → Type 0
-Upward h p t w = (q : ℕ) → p ≤ q → q < t → q < next_at w h q
+-- the links of the places from p on, below t, lead upwards
+pub record Upward (next : ℕ → ℕ) (p t : ℕ) : Type 0 where
+  pub up : (q : ℕ) → p ≤ q → q < t → q < next q
 
--- the link r is the link y, of the slot heads or of a place below p, where the places from p on, below t, are taken out of the list w
-abbrev pub Lowers : List ℕ → ℕ → ℕ → ℕ → ℕ → ℕ → Type 0
-Lowers w h p t y r =
-    (f : ℕ → ℕ) (s a n : ℕ) → a ≤ p → t ≤ n → n ≤ 4096 → ((q : ℕ) → p ≤ q → q < t → Leads f (f q) (q + 1) n 0 0 (next_at w h q))
-    → Leads f s a n 0 0 y → Leads (λ q. f (skip p t q)) s a (n - (t - p)) 0 0 r
+-- the link r is the link y, of the slot heads or of a place below p, where the places from p on, below t, are taken out of a list that has
+-- these links
+pub record Lowers (next : ℕ → ℕ) (p t y r : ℕ) : Type 0 where
+  pub leads : (f : ℕ → ℕ) (s a n : ℕ) → a ≤ p → t ≤ n → n ≤ 4096 → ((q : ℕ) → p ≤ q → q < t → Leads f (f q) (q + 1) n 0 0 (next q))
+      → Leads f s a n 0 0 y → Leads (λ q. f (skip p t q)) s a (n - (t - p)) 0 0 r
 
--- v is w with the first i slot heads lowered
-pub record HeadsLowered (h p t i : ℕ) (w v : List ℕ) : Type 0 where
-  pub heads : (s : ℕ) → s < i → Lowers w h p t (get_or w s 0) (get_or v s 0)
-  pub rest : KeptFrom i w v
+-- the link of place q, in the words of the places from p on
+abbrev pub next_behind : List ℕ → ℕ → ℕ → ℕ
+next_behind w p q = next_at w 0 (q - p)
 
--- v is w with the Next words of the places below i lowered
-pub record NextsLowered (h p t i : ℕ) (w v : List ℕ) : Type 0 where
-  pub nexts : (q : ℕ) → q < i → Lowers w h p t (next_at w h q) (next_at v h q)
+-- v is w with n links relabelled by R, which stand in each s-th word from word a on; all other words are those of w
+pub record Relabelled (R : ℕ → ℕ → Type 0) (a s n : ℕ) (w v : List ℕ) : Type 0 where
+  pub links : (k : ℕ) → k < n → R (get_or w (a + s * k) 0) (get_or v (a + s * k) 0)
+  pub others : (j : ℕ) → ((k : ℕ) → k < n → j ≢ a + s * k) → get_or v j 0 ≡ get_or w j 0
+
+-- v is w with its slot heads and the Next words of its first p places relabelled by R
+pub record FrontRelabelled (R : ℕ → ℕ → Type 0) (h p : ℕ) (w v : List ℕ) : Type 0 where
+  pub heads : (s : ℕ) → s < h → R (get_or w s 0) (get_or v s 0)
+  pub nexts : (q : ℕ) → q < p → R (next_at w h q) (next_at v h q)
   pub entries : (q : ℕ) → entry_in v h q ≡ entry_in w h q
-  pub heads : (s : ℕ) → s < h → get_or v s 0 ≡ get_or w s 0
-  pub rest : KeptFrom (h + 4 * i) w v
+  pub rest : KeptFrom (h + 4 * p) w v
 
 -- the link r is the link y lowered by k; none stays
 pub record Down (k y r : ℕ) : Type 0 where
@@ -188,18 +188,6 @@ pub record Up (p m c y r : ℕ) : Type 0 where
   pub none : m ≤ y → r ≡ y
   pub some : p ≤ y → y < m → r ≡ y + c
 
--- v is w with the first i slot heads raised
-pub record HeadsRaised (p m c i : ℕ) (w v : List ℕ) : Type 0 where
-  pub heads : (s : ℕ) → s < i → Up p m c (get_or w s 0) (get_or v s 0)
-  pub rest : KeptFrom i w v
-
--- v is w with the Next words of the places below i raised
-pub record NextsRaised (h p m c i : ℕ) (w v : List ℕ) : Type 0 where
-  pub nexts : (q : ℕ) → q < i → Up p m c (next_at w h q) (next_at v h q)
-  pub entries : (q : ℕ) → entry_in v h q ≡ entry_in w h q
-  pub heads : (s : ℕ) → s < h → get_or v s 0 ≡ get_or w s 0
-  pub rest : KeptFrom (h + 4 * i) w v
-
 -- v is w with the places from j on, below m, c places higher than they were, and their links raised
 pub record MovedUp (h p m c j : ℕ) (w v : List ℕ) : Type 0 where
   pub entries : (q : ℕ) → j ≤ q → q < m → entry_in v h (q + c) ≡ entry_in w h q
@@ -213,6 +201,11 @@ pub record GapMade (h p m c : ℕ) (w v : List ℕ) : Type 0 where
   pub lower : (q : ℕ) → q < p → (entry_in v h q ≡ entry_in w h q) × Up p m c (next_at w h q) (next_at v h q)
   pub higher : (q : ℕ) → p ≤ q → q < m → (entry_in v h (q + c) ≡ entry_in w h q) × Up p m c (next_at w h q) (next_at v h (q + c))
   pub rest : KeptFrom (h + 4 * (m + c)) w v
+
+-- one more than a place, or 0 where there is none
+abbrev pub behind : Option ℕ → ℕ
+behind None = 0
+behind (Some q) = q + 1
 
 -- place r - 1 is the last below p of slot s, or r is 0 and there is none, where the words w are chained with a gap at place p
 pub record LastBelow (h p s : ℕ) (w : List ℕ) (r : ℕ) : Type 0 where

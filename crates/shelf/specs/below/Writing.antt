@@ -1,27 +1,26 @@
 -- Words for the contracts of the functions that a write is made of: tables by data index of what a write brings to a stripe, the plan by which a
 -- stripe is logged, and blocks copied by tables.
 -- Assumes nothing.
-use Rattle.std.specs.Prelude.{Bool, true, ◌&&◌, ◌||◌, List, ◌≡◌, ℕ, zero, suc, ◌+◌, ◌*◌, ◌-◌, ◌≤◌, ◌<◌, leb, length, get_or}
+use Rattle.std.specs.Prelude.{Bool, true, false, ◌&&◌, List, [], ◌∷◌, ◌++◌, ◌≡◌, ℕ, zero, suc, ◌+◌, ◌*◌, ◌-◌, ◌≤◌, ◌<◌, leb, Option, Some, None, unwrap_or, length, get_or}
 use Rattle.stripe.specs.Blocks.{block, put}
-use Rattle.stripe.specs.Places.{numbered}
-use Rattle.stripe.specs.below.Tables.{Tabled}
 use Rattle.shelf.specs.Counting.{choose, count, any}
 use Rattle.shelf.specs.below.Tables.{Tests, tested}
 use Rattle.shelf.specs.Members.{InRange, addresses, address_of, place_at}
 use Rattle.shelf.specs.State.{State, is_some}
-use Rattle.shelf.specs.Calls.{unlisted_written, unlisted_others, pre_read, records_for, places_for, logged, made, overwritten, write_stripe, written, write_to}
+use Rattle.shelf.specs.Calls.{pre_read, records_for, places_for, logged, made, overwritten, write_stripe, written, write_to}
 use Rattle.shelf.specs.Words.{words}
 use Rattle.shelf.specs.below.Lists.{Measures, Lists}
-use Rattle.shelf.specs.HashList.{said, entry, entries}
-use Rattle.shelf.specs.below.Rewriting.{Rewritten, drop_stripe, merged, at3}
-use Rattle.shelf.specs.Lent.{Lent, lent, listed_by, record_at, state_of, array_length}
+use Rattle.shelf.specs.HashList.{Entry, entry, entries}
+use Rattle.shelf.specs.below.Rewriting.{Rewritten, drop_stripe, merged}
+use Rattle.shelf.specs.Lent.{Lent, lent, ori_by, cur_by, listed_by, word_of, state_of, array_length}
+use Rattle.shelf.specs.below.Entries.{records_in, listed_in}
 use Rattle.shelf.specs.below.Reading.{ListReady, Ready}
 use Rattle.shelf.specs.below.Showing.{Shows}
 use Rattle.shelf.specs.declared.record.Geometry.{Geometry}
 use Rattle.shelf.specs.declared.record.Shelf.{Shelf}
 use Rattle.shelf.specs.declared.plan.Plan.{Plan}
 use Rattle.shelf.specs.declared.share.Share.{Share}
-use Rattle.shelf.specs.declared.entries.Entries.{Entries}
+use Rattle.shelf.specs.declared.entries.Records.{Records}
 
 -- ---- blocks copied by tables
 
@@ -37,138 +36,151 @@ Within n w at b size = (i : ℕ) → i < n → w i ≡ true → at i * b + b ≤
 
 -- ---- what a write brings to a stripe
 
--- the share of stripe x in a write of n blocks from address a on
-abbrev pub Brought : Geometry → ℕ → ℕ → ℕ → Share → Type 0
-Brought g x a n p = Tests g.d (written g a n x) p.new × Tabled g.d (λ i. address_of g x i - a) p.from
+-- whether a share has a block for data index i, and the number of that block in the caller's data
+abbrev pub brings : Share → ℕ → Bool
+brings p i = is_some (get_or p.from i None)
 
--- the share p tells that the blocks of a stripe that w picks are written, and where in source, the caller's data, their blocks v stand
-pub record Shared (g : Geometry) (w : ℕ → Bool) (v : ℕ → List ℕ) (source : List ℕ) (p : Share) : Type 0 where
-  pub new : Tests g.d w p.new
-  pub blocks : (i : ℕ) → i < g.d → w i ≡ true → block g.b (numbered p.from i) source ≡ v i
-  pub within : Within g.d w (numbered p.from) g.b (length source)
+abbrev pub from_in : Share → ℕ → ℕ
+from_in p i = unwrap_or (get_or p.from i None) 0
+
+-- the share of stripe x in a write of the n blocks of source from address a on
+pub record Brought (g : Geometry) (x a n : ℕ) (source : List ℕ) (p : Share) : Type 0 where
+  pub stripe : p.x ≡ x
+  pub buffer : p.source.now ≡ source
+  pub numbers : (i : ℕ) → i < g.d → get_or p.from i None ≡ choose (written g a n x i) (Some (address_of g x i - a)) None
+
+-- the share p tells that the blocks of a stripe that w picks are written, and where in the caller's data their blocks v stand
+pub record Shared (g : Geometry) (w : ℕ → Bool) (v : ℕ → List ℕ) (p : Share) : Type 0 where
+  pub new : (i : ℕ) → i < g.d → brings p i ≡ w i
+  pub blocks : (i : ℕ) → i < g.d → w i ≡ true → block g.b (from_in p i) p.source.now ≡ v i
+  pub within : Within g.d w (from_in p) g.b (length p.source.now)
 
 -- ---- the plan of a logged stripe, by numbers
 
 -- the records that a stripe's blocks have: those that w picks the next ones from r on, in rising index; the others keep theirs
-unfoldable pub noted : ℕ → (ℕ → Bool) → (ℕ → ℕ) → ℕ → ℕ
-noted r w old i = choose (w i) (r + count i w) (old i)
+unfoldable pub noted : ℕ → (ℕ → Bool) → (ℕ → Option ℕ) → ℕ → Option ℕ
+noted r w old i = choose (w i) (Some (r + count i w)) (old i)
 
--- the words that the list has for the blocks of stripe x
-abbrev pub ori_word : Geometry → List ℕ → ℕ → ℕ → ℕ
-ori_word g l x i = (said (words l) g (address_of g x i)).ori
+-- the table es has the records of old with those of d blocks noted: from r on as Ori of the blocks that pre picks, and from q on as Cur of those that w picks
+abbrev pub Noted : ℕ → (ℕ → Bool) → ℕ → (ℕ → Bool) → ℕ → List Records → List Records → Type 0
+Noted d pre r w q old es =
+    (i : ℕ) → i < d
+    → records_in es i
+    ≡ record { ori = noted r pre (λ j. (records_in old j).ori) i; cur = noted q w (λ j. (records_in old j).cur) i }
 
-abbrev pub cur_word : Geometry → List ℕ → ℕ → ℕ → ℕ
-cur_word g l x i = (said (words l) g (address_of g x i)).cur
+-- whether log and list have room for stripe x where the blocks that w tells are written
+abbrev pub has_room : Shelf → List ℕ → ℕ → (ℕ → Bool) → Bool
+has_room r l x w =
+    leb (r.next + records_for r.geometry.d w (listed_by r.geometry l x)) r.geometry.l
+    && leb (r.listed + places_for r.geometry.d w (listed_by r.geometry l x)) r.geometry.e
 
--- a table of them
-abbrev pub EntriesOf : Geometry → List ℕ → ℕ → Entries → Type 0
-EntriesOf g l x r = Tabled g.d (ori_word g l x) r.ori × Tabled g.d (cur_word g l x) r.cur
-
--- a block is listed where one of its words is a record
-abbrev pub is_listed : (ℕ → ℕ) → (ℕ → ℕ) → ℕ → Bool
-is_listed o c i = is_some (record_at (o i)) || is_some (record_at (c i))
-
--- the unlisted blocks on one side: among those that are written, or among the others
-unfoldable pub unlisted_on : Bool → (ℕ → Bool) → (ℕ → Bool) → ℕ → Bool
-unlisted_on written w m i = choose written (unlisted_written w m i) (unlisted_others w m i)
-
--- The plan for stripe x where the blocks that w tells are written: which blocks are pre-read, the log records that Ori and Cur become, the next free
--- record then, and whether log and list have room.
+-- The plan for stripe x where the blocks that w tells are written: there is room; which blocks are pre-read, the entries that the stripe then has, and the
+-- next free record then.
 pub record Planned (r : Shelf) (l : List ℕ) (x : ℕ) (w : ℕ → Bool) (p : Plan) : Type 0 where
+  pub room : has_room r l x w ≡ true
   pub pre : Tests r.geometry.d (pre_read r.geometry.d w (listed_by r.geometry l x)) p.pre
-  pub ori : Tabled r.geometry.d (noted r.next (pre_read r.geometry.d w (listed_by r.geometry l x)) (ori_word r.geometry l x)) p.ori
-  pub cur : Tabled r.geometry.d
-      (noted (r.next + count r.geometry.d (pre_read r.geometry.d w (listed_by r.geometry l x))) w (cur_word r.geometry l x)) p.cur
+  pub ori : (i : ℕ) → i < r.geometry.d
+      → (records_in p.entries i).ori ≡ noted r.next (pre_read r.geometry.d w (listed_by r.geometry l x)) (ori_by r.geometry l x) i
+  pub cur : (i : ℕ) → i < r.geometry.d
+      → (records_in p.entries i).cur
+      ≡ noted (r.next + count r.geometry.d (pre_read r.geometry.d w (listed_by r.geometry l x))) w (cur_by r.geometry l x) i
   pub next : p.next ≡ r.next + records_for r.geometry.d w (listed_by r.geometry l x)
-  pub fits : p.fits ≡ (leb (r.next + records_for r.geometry.d w (listed_by r.geometry l x)) r.geometry.l
-      && leb (r.listed + places_for r.geometry.d w (listed_by r.geometry l x)) r.geometry.e)
+
+-- the plan, or none where log or list has no room
+abbrev pub PlanOf : Shelf → List ℕ → ℕ → (ℕ → Bool) → Option Plan → Type 0
+PlanOf r l x w None = has_room r l x w ≡ false
+PlanOf r l x w (Some p) = Planned r l x w p
 
 -- ---- a stripe's entries put into the list
 
--- the entries of the blocks that w picks, o and c their words and base the address of the first block, stand in a slice in rising index
-abbrev pub Packed : ℕ → (ℕ → Bool) → ℕ → (ℕ → ℕ) → (ℕ → ℕ) → List ℕ → Type 0
-Packed n w base o c y = (i : ℕ) → i < n → w i ≡ true → at3 y (count i w) ≡ entry (base + i) (o i) (c i)
+-- the entries that f has for the indices that w picks among the first n, in rising index
+unfoldable pub picked : ℕ → (ℕ → Bool) → (ℕ → Entry) → List Entry
+picked zero w f = []
+picked (suc n) w f = choose (w n) (picked n w f ++ (f n ∷ [])) (picked n w f)
 
--- each of the first n numbers of a table is a word
-abbrev pub AreWords : ℕ → List ℕ → Type 0
-AreWords n ns = (i : ℕ) → i < n → get_or ns i 0 < 4294967296
+-- the entry of address a that has these records
+abbrev pub entry_with : ℕ → Records → Entry
+entry_with a r = entry a (word_of r.ori) (word_of r.cur)
 
--- the entries r may take the place of stripe x's in the list l of n entries
-pub record Relistable (g : Geometry) (x : ℕ) (r : Entries) (n : ℕ) (l : List ℕ) : Type 0 where
+-- the entries of the listed ones among n blocks with the records es, base the address of the first block
+abbrev pub packed : ℕ → ℕ → List Records → List Entry
+packed n base es = picked n (listed_in es) (λ i. entry_with (base + i) (records_in es i))
+
+-- the entries es may take the place of stripe x's in the list l of n entries
+pub record Relistable (g : Geometry) (x : ℕ) (es : List Records) (n : ℕ) (l : List ℕ) : Type 0 where
   pub measures : Measures g l
   pub lists : Lists (words l) g n
   pub stripe : x < g.s
-  pub ori : AreWords g.d r.ori
-  pub cur : AreWords g.d r.cur
-  pub room : length (drop_stripe g.d x (entries (words l) g)) + count g.d (is_listed (numbered r.ori) (numbered r.cur)) ≤ g.e
+  pub room : length (drop_stripe g.d x (entries (words l) g)) + count g.d (listed_in es) ≤ g.e
 
--- the list l' has the entries r, packed in a slice, in the place of stripe x's in l, and k entries then
-pub record Relisted (g : Geometry) (x : ℕ) (r : Entries) (l l' : List ℕ) (k : ℕ) : Type 0 where
-  pub slice : List ℕ
-  pub packed : Packed g.d (is_listed (numbered r.ori) (numbered r.cur)) (x * g.d) (numbered r.ori) (numbered r.cur) slice
-  pub rewritten : Rewritten g
-      (merged (count g.d (is_listed (numbered r.ori) (numbered r.cur))) slice (drop_stripe g.d x (entries (words l) g))) l' k
+-- the list l' has the entries es in the place of stripe x's in l, and k entries then
+abbrev pub Relisted : Geometry → ℕ → List Records → List ℕ → List ℕ → ℕ → Type 0
+Relisted g x es l l' k = Rewritten g (merged (packed g.d (x * g.d) es) (drop_stripe g.d x (entries (words l) g))) l' k
 
 -- ---- the copies of a logged stripe
 
+-- the log record, by the plan q, of the original of data index i, and of its latest value
+abbrev pub ori_in : Plan → ℕ → ℕ
+ori_in q i = unwrap_or (records_in q.entries i).ori 0
+
+abbrev pub cur_in : Plan → ℕ → ℕ
+cur_in q i = unwrap_or (records_in q.entries i).cur 0
+
 -- the log with the pre-read blocks of the array put in, by the plan q; and then with the new blocks
 unfoldable pub pre_logged : Geometry → ℕ → Plan → List ℕ → List ℕ → List ℕ
-pre_logged g x q array log = copied g.d (tested q.pre) (place_at g x) (numbered q.ori) g.b array log
+pre_logged g x q array log = copied g.d (tested q.pre) (place_at g x) (ori_in q) g.b array log
 
-unfoldable pub new_logged : Geometry → Share → Plan → List ℕ → List ℕ → List ℕ
-new_logged g p q from log = copied g.d (tested p.new) (numbered p.from) (numbered q.cur) g.b from log
+unfoldable pub new_logged : Geometry → Share → Plan → List ℕ → List ℕ
+new_logged g p q log = copied g.d (brings p) (from_in p) (cur_in q) g.b p.source.now log
 
--- the array with the new blocks of stripe x
-unfoldable pub new_stored : Geometry → ℕ → Share → List ℕ → List ℕ → List ℕ
-new_stored g x p from array = copied g.d (tested p.new) (numbered p.from) (place_at g x) g.b from array
+-- the array with the new blocks of a share
+unfoldable pub new_stored : Geometry → Share → List ℕ → List ℕ
+new_stored g p array = copied g.d (brings p) (from_in p) (place_at g p.x) g.b p.source.now array
 
--- the new blocks of stripe x lie within the caller's data, of these many bytes, and within the array
-pub record Storable (g : Geometry) (x : ℕ) (p : Share) (from array : ℕ) : Type 0 where
+-- the new blocks of a share lie within the caller's data, and within the array, of these many bytes
+pub record Storable (g : Geometry) (p : Share) (array : ℕ) : Type 0 where
   pub range : InRange g
-  pub stripe : x < g.s
+  pub stripe : p.x < g.s
   pub long : array ≡ array_length g
-  pub within : Within g.d (tested p.new) (numbered p.from) g.b from
+  pub within : Within g.d (brings p) (from_in p) g.b (length p.source.now)
 
--- and the records of the plan q within the log
-pub record Copyable (g : Geometry) (x : ℕ) (p : Share) (q : Plan) (from array log : ℕ) : Type 0 where
-  pub storable : Storable g x p from array
-  pub pre : Within g.d (tested q.pre) (numbered q.ori) g.b log
-  pub new : Within g.d (tested p.new) (numbered q.cur) g.b log
+-- the blocks that w picks have records, which lie within a log of size bytes
+abbrev pub HaveRecords : ℕ → (ℕ → Bool) → (ℕ → Option ℕ) → ℕ → ℕ → Type 0
+HaveRecords n w o b size = (i : ℕ) → i < n → w i ≡ true → (is_some (o i) ≡ true) × (unwrap_or (o i) 0 * b + b ≤ size)
 
 -- ---- what the functions for a stripe promise: what shows a state before shows the state after, whatever blocks w and v are that the table tells
 
--- stripe x logged
-abbrev pub LogsStripe : Geometry → ℕ → List ℕ → Share → Lent → Lent → Type 0
-LogsStripe g x from p h h' =
-    (s : State) (w : ℕ → Bool) (v : ℕ → List ℕ) → Shared g w v from p → Shows g s h → Shows g (logged g s x w v) h'
+-- the share's stripe logged
+abbrev pub LogsStripe : Geometry → Share → Lent → Lent → Type 0
+LogsStripe g p h h' =
+    (s : State) (w : ℕ → Bool) (v : ℕ → List ℕ) → Shared g w v p → Shows g s h → Shows g (logged g s p.x w v) h'
 
--- what logging stripe x asks: the shelf is ready, the share's blocks lie within the caller's data, and the plan is the stripe's and has room
-pub record Loggable (h : Lent) (x : ℕ) (from : List ℕ) (p : Share) (q : Plan) : Type 0 where
+-- what logging the share's stripe asks: the shelf is ready, the share's blocks lie within the caller's data, and the plan is the stripe's
+pub record Loggable (h : Lent) (p : Share) (q : Plan) : Type 0 where
   pub ready : Ready h
-  pub stripe : x < h.shelf.geometry.s
-  pub within : Within h.shelf.geometry.d (tested p.new) (numbered p.from) h.shelf.geometry.b (length from)
-  pub planned : Planned h.shelf h.list x (tested p.new) q
-  pub fits : q.fits ≡ true
+  pub stripe : p.x < h.shelf.geometry.s
+  pub within : Within h.shelf.geometry.d (brings p) (from_in p) h.shelf.geometry.b (length p.source.now)
+  pub planned : Planned h.shelf h.list p.x (brings p) q
 
--- stripe x with the blocks written and its parity made afresh, whatever the log n holds
-abbrev pub MakesStripe : ℕ → List ℕ → Share → Shelf → List ℕ → List ℕ → Shelf → List ℕ → List ℕ → Type 0
-MakesStripe x from p r a l r' a' l' =
-    (s : State) (w : ℕ → Bool) (v : ℕ → List ℕ) (n : List ℕ) → Shared r.geometry w v from p → Shows r.geometry s (lent r a n l)
-    → Shows r.geometry (made r.geometry s x (overwritten w v (s.disk x))) (lent r' a' n l')
+-- the share's stripe with the blocks written and its parity made afresh, whatever the log n holds
+abbrev pub MakesStripe : Share → Shelf → List ℕ → List ℕ → Shelf → List ℕ → List ℕ → Type 0
+MakesStripe p r a l r' a' l' =
+    (s : State) (w : ℕ → Bool) (v : ℕ → List ℕ) (n : List ℕ) → Shared r.geometry w v p → Shows r.geometry s (lent r a n l)
+    → Shows r.geometry (made r.geometry s p.x (overwritten w v (s.disk p.x))) (lent r' a' n l')
 
--- stripe x written, in one of these two ways
-abbrev pub WritesStripe : Geometry → ℕ → List ℕ → Share → Lent → Lent → Type 0
-WritesStripe g x from p h h' =
-    (s : State) (w : ℕ → Bool) (v : ℕ → List ℕ) → Shared g w v from p → Shows g s h → Shows g (write_stripe g s x w v) h'
+-- the share's stripe written, in one of these two ways
+abbrev pub WritesStripe : Geometry → Share → Lent → Lent → Type 0
+WritesStripe g p h h' =
+    (s : State) (w : ℕ → Bool) (v : ℕ → List ℕ) → Shared g w v p → Shows g s h → Shows g (write_stripe g s p.x w v) h'
 
--- what is asked for stripe x: record, array and list have passed rows 1 to 3, as far as its functions ask, some block is written, and all of them
+-- what is asked for the share's stripe: record, array and list have passed rows 1 to 3, as far as its functions ask, some block is written, and all of them
 -- stand in the caller's data
-pub record Writable (r : Shelf) (a l : List ℕ) (x : ℕ) (from : List ℕ) (p : Share) : Type 0 where
+pub record Writable (r : Shelf) (a l : List ℕ) (p : Share) : Type 0 where
   pub listing : ListReady r l
   pub array : length a ≡ array_length r.geometry
-  pub there : x < r.geometry.s
-  pub some : any r.geometry.d (tested p.new) ≡ true
-  pub within : Within r.geometry.d (tested p.new) (numbered p.from) r.geometry.b (length from)
+  pub there : p.x < r.geometry.s
+  pub some : any r.geometry.d (brings p) ≡ true
+  pub within : Within r.geometry.d (brings p) (from_in p) r.geometry.b (length p.source.now)
 
 -- what is asked for a write of n blocks from address a on
 pub record WriteReady (h : Lent) (a n len : ℕ) : Type 0 where

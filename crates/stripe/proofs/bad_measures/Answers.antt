@@ -1,29 +1,15 @@
--- `stripe::bad_measures` meets its contract: a test after the other.
+-- `stripe::bad_measures` meets its contract.
 -- Assumes nothing.
-use borrow.Author.Tests.{lt-ltb, le-ltb}
+use Rattle.std.proofs.Common.{arith}
+use Rattle.std.proofs.lemmas.Grind.{common_steps}
 use Rattle.stripe.specs.Calls.{bad_measures}
+use Rattle.stripe.proofs.bad_measures.Goals.{then-not-contains, else-not-contains}
 use Rattle.stripe.proofs.bad_measures.Goals as goal
 
-pub returns-then-d-lt2 : goal.returns-then-d-lt2
+pub returns-then-not-contains-2 : goal.returns-then-not-contains-2
 unfolding bad_measures
-returns-then-d-lt2 c = simp (lt-ltb _ _ c.if-d-lt2.true)
+returns-then-not-contains-2 c = elim c.if-not-contains.branch [ then-not-contains w ↦ grind (arith, common_steps) | else-not-contains w ↦ grind (arith, common_steps) ]
 
-pub returns-then-d-gt16 : goal.returns-then-d-gt16
+pub returns-else-not-contains-2 : goal.returns-else-not-contains-2
 unfolding bad_measures
-returns-then-d-gt16 c = simp (le-ltb _ _ c.if-d-lt2.false, lt-ltb _ _ c.if-d-gt16.true)
-
-pub returns-then-parities-lt1 : goal.returns-then-parities-lt1
-unfolding bad_measures
-returns-then-parities-lt1 c = simp (le-ltb _ _ c.if-d-lt2.false, le-ltb _ _ c.if-d-gt16.false, lt-ltb _ _ c.if-parities-lt1.true)
-
-pub returns-then-parities-gt2 : goal.returns-then-parities-gt2
-unfolding bad_measures
-returns-then-parities-gt2 c = simp (le-ltb _ _ c.if-d-lt2.false, le-ltb _ _ c.if-d-gt16.false, le-ltb _ _ c.if-parities-lt1.false, lt-ltb _ _ c.if-parities-gt2.true)
-
-pub returns-then-b-lt1 : goal.returns-then-b-lt1
-unfolding bad_measures
-returns-then-b-lt1 c = simp (le-ltb _ _ c.if-d-lt2.false, le-ltb _ _ c.if-d-gt16.false, le-ltb _ _ c.if-parities-lt1.false, le-ltb _ _ c.if-parities-gt2.false, lt-ltb _ _ c.if-b-lt1.true)
-
-pub returns : goal.returns
-unfolding bad_measures
-returns c = simp (le-ltb _ _ c.if-d-lt2.false, le-ltb _ _ c.if-d-gt16.false, le-ltb _ _ c.if-parities-lt1.false, le-ltb _ _ c.if-parities-gt2.false, le-ltb _ _ c.if-b-lt1.false)
+returns-else-not-contains-2 c = grind (arith, common_steps)

@@ -1,13 +1,14 @@
 -- `stripe::too_many` meets its contract.
 -- Assumes nothing.
-use borrow.Author.Tests.{lt-ltb, le-ltb}
+use Rattle.std.proofs.Common.{arith}
+use Rattle.std.proofs.lemmas.Grind.{common_steps}
 use Rattle.stripe.specs.Calls.{too_many}
 use Rattle.stripe.proofs.too_many.Goals as goal
 
-pub returns-then-parities-ge2 : goal.returns-then-parities-ge2
+pub returns-then-parities-lt2 : goal.returns-then-parities-lt2
 unfolding too_many
-returns-then-parities-ge2 c = simp (le-ltb _ _ c.if-parities-ge2.true)
+returns-then-parities-lt2 c = grind (arith, common_steps)
 
-pub returns : goal.returns
+pub returns-else-parities-lt2 : goal.returns-else-parities-lt2
 unfolding too_many
-returns c = simp (lt-ltb _ _ c.if-parities-ge2.false)
+returns-else-parities-lt2 c = grind (arith, common_steps)

@@ -1,11 +1,9 @@
 -- What the loops below the calls gather, byte by byte: words for the contracts of the functions that the calls are made of.
 -- Assumes nothing.
-use Rattle.std.specs.Prelude.{Bool, ◌||◌, List, ◌⊎◌, ◌≢◌, ◌≡◌, ℕ, ◌+◌, ◌*◌, ◌≤◌, ◌<◌, eqb, ltb, length, get_or}
+use Rattle.std.specs.Prelude.{Bool, ◌||◌, Option, Some, None, List, ◌⊎◌, ◌≢◌, ◌≡◌, ℕ, ◌+◌, ◌≤◌, ◌<◌, eqb, ltb, length, get_or}
 use Rattle.std.specs.Int.Bits.{bit_xor}
-use Rattle.field.specs.Field.{double, times, inverse, Multiples}
+use Rattle.field.specs.Field.{double, times, inverse}
 use Rattle.stripe.specs.Parity.{pick, weight, parity_p, parity_q, parity_of, made, without, rest_p, data_solved}
-use Rattle.stripe.specs.Places.{in_order}
-use Rattle.stripe.specs.below.Tables.{Tabled, Held, Whole}
 
 -- ---- rows of bytes
 
@@ -21,7 +19,10 @@ zeros j = 0
 unfoldable pub later : (ℕ → ℕ) → ℕ → ℕ → ℕ
 later f o j = f (o + j)
 
--- byte j of a row, taken from place at of a buffer
+-- byte j of a row; of one taken from place at of a buffer
+unfoldable pub byte : List ℕ → ℕ → ℕ
+byte x j = get_or x j 0
+
 unfoldable pub taken : ℕ → List ℕ → ℕ → ℕ
 taken at src j = get_or src (at + j) 0
 
@@ -69,9 +70,10 @@ column_from at a j i = get_or a (get_or at i 0 + j) 0
 unfoldable pub by_start : ((ℕ → ℕ) → ℕ) → List ℕ → List ℕ → ℕ → ℕ
 by_start h at a j = h (column_from at a j)
 
--- p and q start with columns o to o + w - 1 of the P and the Q that the stripe's data gives
-abbrev pub SumsAt : List ℕ → ℕ → List ℕ → ℕ → ℕ → List ℕ → List ℕ → Type 0
-SumsAt at d a o w p q = Starts w p (later (by_start (parity_p d) at a) o) × Starts w q (later (by_start (parity_q d) at a) o)
+-- p and, where there are two parities, q start with columns o to o + w - 1 of the P and the Q that the stripe's data gives
+pub record SumsAt (at : List ℕ) (d k : ℕ) (a : List ℕ) (o w : ℕ) (p q : List ℕ) : Type 0 where
+  pub p_summed : Starts w p (later (by_start (parity_p d) at a) o)
+  pub q_summed : k ≡ 2 → Starts w q (later (by_start (parity_q d) at a) o)
 
 -- the array a is a₀ but for the stripe's k parities, blocks of b bytes, whose first o columns are made of a₀'s data
 pub record Partly (at : List ℕ) (d k b o : ℕ) (a₀ a : List ℕ) : Type 0 where
@@ -80,14 +82,6 @@ pub record Partly (at : List ℕ) (d k b o : ℕ) (a₀ a : List ℕ) : Type 0 w
   pub others : (i : ℕ) → ((p : ℕ) → p < k → Outside i (get_or at (d + p) 0) b) → get_or a i 0 ≡ get_or a₀ i 0
 
 -- ---- recovery, role by role
-
--- what a sum over the blocks of a stripe asks of its arguments: at most 16 data blocks, an array of n blocks, a table of the block numbers of the
--- data and P over the array with the log behind it, and a working block of b bytes
-pub record Gathers (d n b : ℕ) (array log ns work : List ℕ) : Type 0 where
-  pub data_most : d ≤ 16
-  pub whole : length array ≡ n * b
-  pub held : Held (d + 1) b (length array + length log) ns
-  pub working : length work ≡ b
 
 -- what data i gives to the sum for P where x and y are missing, and the sum
 unfoldable pub there : ℕ → ℕ → ℕ → (ℕ → ℕ) → ℕ
@@ -113,15 +107,11 @@ comes_from_p d x y = eqb x y || ltb d y
 unfoldable pub coefficient : ℕ → ℕ → ℕ → ℕ
 coefficient d x y = pick (ltb y d) (bit_xor (weight x) (weight y)) (weight x)
 
--- A table of products tells by the two bytes behind its entries which constant is its own: the inverse of that coefficient for data x and y, y being
--- 16 where it is not data. A table of zeros is that of 0: equal weights add up to 0, whose inverse is 0 here.
-unfoldable pub constant : List ℕ → ℕ
-constant t = inverse (coefficient 16 (get_or t 256 0) (get_or t 257 0))
-
--- entry k of the table is its constant times k, for every byte k
-pub record Products (t : List ℕ) : Type 0 where
-  pub long : length t ≡ 258
-  pub multiples : Multiples (constant t) t
+-- The constant whose products a table has, by the pair that it is for: the inverse of that coefficient for data x and y, y being 16 where it is not
+-- data; 0 where there is no pair.
+abbrev pub told_constant : Option (ℕ × ℕ) → ℕ
+told_constant None = 0
+told_constant (Some p) = inverse (coefficient 16 p.0 p.1)
 
 -- byte j of w with f's added, divided by that coefficient
 unfoldable pub quotient : ℕ → ℕ → ℕ → (ℕ → ℕ) → List ℕ → ℕ → ℕ
@@ -132,13 +122,6 @@ unfoldable pub of_sum : ℕ → ℕ → ℕ → (ℕ → ℕ) → ℕ
 of_sum d x y D = times (inverse (coefficient d x y)) (bit_xor (standing_q d x x D) (D (d + 1)))
 
 -- ---- recovery in two steps, each on every column: the data where it is missing, then the parities of the data
-
--- what a step asks of its arguments: the measures, a working block of b bytes, and a table of the stripe's block numbers
-pub record Workable (d k b : ℕ) (stripe work ns : List ℕ) : Type 0 where
-  pub measures : Whole d k b (length stripe)
-  pub working : length work ≡ b
-  pub long : d + k ≤ length ns
-  pub table : Tabled (d + k) in_order ns
 
 -- column D with what h makes of it for role m
 unfoldable pub replaced : ℕ → ((ℕ → ℕ) → ℕ) → (ℕ → ℕ) → ℕ → ℕ

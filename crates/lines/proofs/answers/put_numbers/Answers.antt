@@ -1,7 +1,7 @@
--- `lines::answers::put_numbers` meets its contract. The loop's invariant: the first i numbers are put, and there is room for the others.
+-- `lines::answers::put_numbers` meets its contract.
 -- Assumes nothing.
 use mathlib.Core.List.{List, [], ◌∷◌, ◌++◌}
-use mathlib.Core.Path.{refl, ap, ◌∙◌}
+use mathlib.Core.Path.{ap, ◌∙◌}
 use Prim.Native.Nat.{ℕ}
 use native.Mathlib.Omega.{arith}
 use lib.ListN.{get_or}
@@ -9,24 +9,24 @@ use lib.Seq.{take_all}
 use Rattle.lines.proofs.AnswerLaws.{decimal_short, blanked, blanked_more, spelled_blanked, puts_none, puts_byte, puts_then, puts_text}
 use Rattle.lines.proofs.answers.put_numbers.Goals as goal
 
-pub loop-i-init : goal.loop-i-init
+pub loop-n-init : goal.loop-n-init
 unfolding blanked
-loop-i-init c = ((omega arith, (refl, omega arith)), puts_none _ _)
+loop-n-init c = (omega arith, puts_none _ _)
 
-pub loop-i-preserved : goal.loop-i-preserved
-loop-i-preserved c =
-    let l = c.loop-i in
+pub loop-n-preserved : goal.loop-n-preserved
+loop-n-preserved c =
+    let l = c.loop-n in
     let p = c.put_number-at in
     let ns = c.args.numbers.now in
-    let n = get_or ns l.i 0 in
-    let short = decimal_short 19 n (omega (arith, c.type_inv.numbers l.i)) in (
-      (omega arith, (p.auto.out ∙ l.invariant.0.1.0, omega (arith, p.ensures.ends, p.auto.out))),
-      puts_text (blanked_more ns l.i (omega arith)) (puts_then (omega arith) l.invariant.1 p.ensures),
+    let i = l.n-index in
+    let short = decimal_short 19 (get_or ns i 0) (omega (arith, c.type_inv.numbers i)) in (
+      omega (arith, p.ensures.ends, p.auto.out),
+      puts_text (blanked_more ns i (omega arith)) (puts_then (omega arith) l.invariant.1 p.ensures),
     )
 
 pub returns : goal.returns
 returns c =
-    let l = c.loop-i in
+    let l = c.loop-n in
     let ns = c.args.numbers.now in
-    puts_text (ap (λ (ms : List ℕ). blanked ms ++ (10 ∷ [])) (take_all l.i ns (omega arith)) ∙ spelled_blanked ns)
+    puts_text (ap (λ (ms : List ℕ). blanked ms ++ (10 ∷ [])) (take_all l.n-index ns (omega arith)) ∙ spelled_blanked ns)
     (puts_then (omega arith) l.invariant.1 (puts_byte l.out l.at 10 (omega arith)))

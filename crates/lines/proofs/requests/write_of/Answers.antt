@@ -8,6 +8,6 @@ pub returns-then-c-le255 : goal.returns-then-c-le255
 unfolding write_of
 returns-then-c-le255 c = simp (le-leb _ _ c.if-c-le255.true)
 
-pub returns : goal.returns
+pub returns-else-c-le255 : goal.returns-else-c-le255
 unfolding write_of
-returns c = simp (lt-leb _ _ c.if-c-le255.false)
+returns-else-c-le255 c = simp (lt-leb _ _ c.if-c-le255.false)

@@ -25,8 +25,8 @@ overflow_mul-x-2 c = let st = c in omega (arith, address-low st.args.g.d st.args
 pub overflow_add-x : goal.overflow_add-x
 overflow_add-x c = let st = c in omega (arith, address-low st.args.g.d st.args.g.s st.args.x st.requires.measures.d1 st.requires.measures.s1 st.requires.replaces.there, st.requires.measures.d1)
 
-pub stand_in-requires-clause-c_bound : goal.stand_in-requires-clause-c_bound
-stand_in-requires-clause-c_bound c =
+pub stand_in-requires-clause-few : goal.stand_in-requires-clause-few
+stand_in-requires-clause-few c =
     let st = c in
     let m = st.requires.measures in
     let r = lists-room st.args.list.now st.args.g st.args.n st.requires.measures st.requires.lists in
@@ -46,8 +46,8 @@ stand_in-requires-clause-n_in_bounds c =
     let r = lists-room st.args.list.now st.args.g st.args.n st.requires.measures st.requires.lists in
     omega (arith, r, m.len)
 
-pub put_places-requires-clause-c_bound : goal.put_places-requires-clause-c_bound
-put_places-requires-clause-c_bound c =
+pub put_places-requires-clause-room : goal.put_places-requires-clause-room
+put_places-requires-clause-room c =
     let st = c in
     let r = lists-room st.args.list.now st.args.g st.args.n st.requires.measures st.requires.lists in
     let i = c.stand_in.ensures c.if-stand_in.true in
@@ -67,13 +67,13 @@ returns-then-stand_in c =
     let i = c.stand_in.ensures c.if-stand_in.true in
     let len : length l ≡ 4 * (g.h + 4 * g.e) = search rules in
     let lw = length-words l (g.h + 4 * g.e) len in
-    let is : words l ≡ encode g (merged a.c a.y.now (drop_stripe g.d a.x (entries w g))) =
+    let is : words l ≡ encode g (merged a.fresh.now (drop_stripe g.d a.x (entries w g))) =
     replaced_words w g v.next a.n m.h0 m.d0 m.e1 v.passing (words l) lw f.ensures.links_kept (λ j o. f.ensures.kept_from j (omega (arith, i.within, o)))
-    a.x a.c p.result a.y.now p.ensures i st.requires.replaces.segment f.ensures.filled in (
+    a.x p.result a.fresh.now p.ensures i st.requires.replaces.segment f.ensures.filled in (
       sym (bytes-words l (g.h + 4 * g.e) len (λ j. omega (arith, c.slice_known-then-stand_in-1.given j))) ∙ ap bytes_of is,
       (
         is,
         replaced_count w g v.next a.n m.h0 m.d0 m.e1 v.passing (words l) lw f.ensures.links_kept (λ j o. f.ensures.kept_from j (omega (arith, i.within, o)))
-            a.x a.c p.result a.y.now p.ensures i st.requires.replaces.segment f.ensures.filled,
+            a.x p.result a.fresh.now p.ensures i st.requires.replaces.segment f.ensures.filled,
       ),
     )

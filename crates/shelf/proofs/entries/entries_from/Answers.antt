@@ -1,54 +1,42 @@
--- `shelf::entries::entries_from` meets its contract. The loop's invariant: the words of the indices passed are in the two tables, and q is the first place
--- of an address that is not passed.
+-- `shelf::entries::entries_from` meets its contract.
 -- Assumes nothing.
 use mathlib.Core.Path.{◌≡◌, sym, ◌∙◌, subst}
-use Prim.Native.Nat.{ℕ, ◌+◌, ◌*◌, ◌<◌, zero-le}
-use native.Mathlib.Nat.{add-zero}
+use Prim.Native.Nat.{ℕ, ◌+◌, ◌*◌, ◌<◌}
 use native.Mathlib.Omega.{arith}
-use lib.ListN.{length, length-set}
-use Rattle.stripe.proofs.Laws.{fill_step}
+use native.Mathlib.Nat.{add-zero}
+use lib.ListN.{length, length-set, get_or-append}
+use lib.Seq.{length-take-le}
+use Rattle.shelf.specs.Members.{address_of}
 use Rattle.shelf.specs.Words.{words}
+use Rattle.shelf.specs.below.Entries.{no_records, records_of}
 use Rattle.shelf.specs.below.Lists.{FirstFrom}
-use Rattle.shelf.specs.below.Writing.{ori_word, cur_word}
-use Rattle.shelf.proofs.calls.ServedLaws.{address-low}
-use borrow.Author.Rules.{rules}
+use Rattle.shelf.proofs.calls.PlanLaws.{table_turn}
 use Rattle.shelf.proofs.entries.entries_from.Goals as goal
 
 pub loop-i-init : goal.loop-i-init
 loop-i-init c =
-    let st = c in
-    let a = st.args in
-    (zero-le, (search rules, (search rules, (subst (λ (k : ℕ). FirstFrom (words a.list.now) a.g.h a.n k a.p) (sym (add-zero (a.x * a.g.d))) st.requires.first_from, ((λ j p. absurd (omega arith)), λ j p. absurd (omega arith))))))
-
-pub overflow_mul-x : goal.overflow_mul-x
-overflow_mul-x c = let st = c in omega (arith, address-low st.args.g.d st.args.g.s st.args.x st.requires.measures.d1 st.requires.measures.s1 st.requires.x_lt_s)
-
-pub overflow_add-x : goal.overflow_add-x
-overflow_add-x c = let st = c in omega (arith, address-low st.args.g.d st.args.g.s st.args.x st.requires.measures.d1 st.requires.measures.s1 st.requires.x_lt_s)
+    let m = c.requires.measures in
+    record {
+      long = length-take-le c.args.g.d _ (omega (arith, m.d1));
+      first = subst (λ (k : ℕ). FirstFrom (words c.args.list.now) c.args.g.h c.args.n k c.args.p) (sym (add-zero (c.args.x * c.args.g.d))) c.requires.first_from;
+      read = λ j o. absurd (omega arith);
+    }
 
 pub loop-i-preserved : goal.loop-i-preserved
 loop-i-preserved c =
     let a = c.args in
-    let at-loop = c.loop-i in
-    let r = c.said_from-said in
-    let low : at-loop.i < length at-loop.ori = omega arith in
-    let low2 : at-loop.i < length at-loop.cur = omega arith in
-    let next : a.x * a.g.d + at-loop.i + 1 ≡ a.x * a.g.d + (at-loop.i + 1) = omega arith in (
-      omega arith,
-      (
-        length-set at-loop.ori at-loop.i r.result.ori ∙ at-loop.invariant.1.0,
-        (
-          length-set at-loop.cur at-loop.i r.result.cur ∙ at-loop.invariant.1.1.0,
-          (
-            subst (λ (k : ℕ). FirstFrom (words a.list.now) a.g.h a.n k r.result.next) next r.ensures.first_from_2,
-            (
-              fill_step at-loop.ori at-loop.i r.result.ori (ori_word a.g a.list.now a.x) low at-loop.invariant.1.1.1.1.0 r.ensures.ori_value,
-              fill_step at-loop.cur at-loop.i r.result.cur (cur_word a.g a.list.now a.x) low2 at-loop.invariant.1.1.1.1.1 r.ensures.cur_value,
-            ),
-          ),
-        ),
-      ),
-    )
+    let at = c.loop-i in
+    let r = c.said_from in
+    let low : at.i < length at.entry-items = omega (arith, at.auto.entry-items, c.loop-i-test.true) in
+    let next : a.x * a.g.d + at.i + 1 ≡ a.x * a.g.d + (at.i + 1) = omega arith in
+    record {
+      long = length-set at.entry-items at.i r.result.0 ∙ at.invariant.long;
+      first = subst (λ (k : ℕ). FirstFrom (words a.list.now) a.g.h a.n k r.result.1) next r.ensures.behind;
+      read = table_turn (λ j. records_of (words a.list.now) a.g (address_of a.g a.x j)) no_records at.i at.entry-items r.result.0 low r.ensures.said at.invariant.read;
+    }
 
 pub returns : goal.returns
-returns c = ((λ j p. c.loop-i.invariant.1.1.1.1.0 j (omega arith)), λ j p. c.loop-i.invariant.1.1.1.1.1 j (omega arith))
+returns c =
+    let at = c.loop-i in
+    λ i o. get_or-append at.entry-items _ no_records i (omega (arith, at.invariant.long))
+    ∙ at.invariant.read i (omega (arith, at.invariant.long, at.auto.entry-items, c.loop-i-test.false))

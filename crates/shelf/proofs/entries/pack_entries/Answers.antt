@@ -1,94 +1,58 @@
--- `shelf::entries::pack_entries` meets its contract. The loop's invariant: the entries of the indices passed that are listed are packed, n of them.
+-- `shelf::entries::pack_entries` meets its contract.
 -- Assumes nothing.
-use mathlib.Core.List.{List}
-use mathlib.Core.Path.{◌≡◌, refl, ap, ◌∙◌}
-use Prim.Native.Nat.{ℕ, ◌+◌, ◌<◌, zero-le}
+use mathlib.Core.List.{List, [], ◌∷◌, ◌++◌}
+use mathlib.Core.Path.{◌≡◌, refl, sym, ap, ap₂, ◌∙◌}
+use Prim.Native.Nat.{ℕ, suc, ◌+◌, ◌<◌}
 use native.Mathlib.Omega.{arith}
-use lib.ListN.{length}
-use Rattle.stripe.specs.Places.{numbered}
-use Rattle.shelf.specs.Counting.{count}
-use Rattle.shelf.specs.below.Rewriting.{at3, held}
-use Rattle.shelf.specs.below.Tables.{tested}
-use Rattle.shelf.proofs.general.CountLaws.{count_most}
-use Rattle.shelf.proofs.general.WalkLaws.{count_turn}
-use Rattle.shelf.proofs.hashlist.TableLaws.{length-table}
-use Rattle.shelf.proofs.calls.RelistLaws.{packed_turn, packed_all}
-use borrow.Author.Rules.{rules}
+use lib.ListN.{length, take}
+use lib.Seq.{take-suc-set, get_or-take, length-take-le}
+use Rattle.shelf.specs.HashList.{Entry}
+use Rattle.shelf.specs.below.Entries.{no_records, records_in, is_listed, listed_in}
+use Rattle.shelf.specs.declared.entries.Records.{Records}
+use Rattle.shelf.specs.below.Writing.{entry_with, picked, packed}
+use Rattle.shelf.proofs.calls.RelistLaws.{picked_turn, picked_left}
 use Rattle.shelf.proofs.entries.pack_entries.Goals as goal
+use Rattle.shelf.proofs.entries.pack_entries.Goals.{then-is_listed, else-is_listed}
 
 pub loop-i-init : goal.loop-i-init
-unfolding count
-loop-i-init c = (zero-le, (zero-le, (refl, (refl, λ j p. absurd (omega arith)))))
-
-pub pack_if-n-requires-clause-n_bound : goal.pack_if-n-requires-clause-n_bound
-pack_if-n-requires-clause-n_bound c =
-    let st = c in
-    let at-loop = c.loop-i in
-    let low : at-loop.i < st.args.d = omega arith in
-    omega arith
-
-pub pack_if-n-requires-clause-in_bounds : goal.pack_if-n-requires-clause-in_bounds
-pack_if-n-requires-clause-in_bounds c =
-    let st = c in
-    let at-loop = c.loop-i in
-    let low : at-loop.i < st.args.d = omega arith in
-    omega arith
-
-pub pack_if-n-requires-clause-a_bound : goal.pack_if-n-requires-clause-a_bound
-pack_if-n-requires-clause-a_bound c =
-    let st = c in
-    let at-loop = c.loop-i in
-    let low : at-loop.i < st.args.d = omega arith in
-    omega arith
-
-pub pack_if-n-requires-clause-o_bound : goal.pack_if-n-requires-clause-o_bound
-pack_if-n-requires-clause-o_bound c =
-    let st = c in
-    let at-loop = c.loop-i in
-    let low : at-loop.i < st.args.d = omega arith in
-    st.requires.are_words at-loop.i low
-
-pub pack_if-n-requires-clause-c_bound : goal.pack_if-n-requires-clause-c_bound
-pack_if-n-requires-clause-c_bound c =
-    let st = c in
-    let at-loop = c.loop-i in
-    let low : at-loop.i < st.args.d = omega arith in
-    st.requires.are_words_2 at-loop.i low
+unfolding picked
+loop-i-init c = record { few = omega arith; long = c.told-slice; packed = refl }
 
 pub loop-i-preserved : goal.loop-i-preserved
-unfolding numbered
 loop-i-preserved c =
     let a = c.args in
-    let at-loop = c.loop-i in
-    let r = c.pack_if-n in
-    let after : List ℕ = r.new.slice in
-    let long : length after ≡ length a.slice.now = search rules in
-    let full : at-loop.n < length (held 16 0 at-loop.slice) = omega (arith, length-table 16 0 (at3 at-loop.slice)) in
-    let counted : r.result ≡ count (at-loop.i + 1) (tested a.listed) = r.ensures.value ∙ count_turn at-loop.i at-loop.n (tested a.listed) (tested a.listed at-loop.i) at-loop.invariant.1.1.0 refl in (
-      omega arith,
-      (
-        omega (arith, counted, count_most (at-loop.i + 1) (tested a.listed)),
-        (
-          counted,
-          (
-            long,
-            packed_turn (tested a.listed) a.base (numbered a.entries.ori) (numbered a.entries.cur) at-loop.i at-loop.n (held 16 0 at-loop.slice) (held 16 0 after)
-                at-loop.invariant.1.1.0 full r.ensures.slice_after at-loop.invariant.1.1.1.1,
-          ),
-        ),
-      ),
-    )
-
-pub returns-clause-value : goal.returns-clause-value
-returns-clause-value c =
-    let a = c.args in
-    let at-loop = c.loop-i in
-    let done : at-loop.i ≡ a.d = omega arith in
-    at-loop.invariant.1.1.0 ∙ ap (λ (k : ℕ). count k (tested a.listed)) done
+    let at = c.loop-i in
+    let I = at.invariant in
+    let w = listed_in a.entries.now in
+    let f = λ (i : ℕ). entry_with (a.base + i) (records_in a.entries.now i) in
+    let o : at.i < a.d = omega (arith, length-take-le a.d a.entries.now (omega (arith, c.told-entries, c.requires.d_bound))) in
+    let same : records_in (take a.d a.entries.now) at.i ≡ records_in a.entries.now at.i = get_or-take a.d a.entries.now at.i no_records o in
+    let told : listed_in a.entries.now at.i ≡ c.is_listed.result = ap (λ (r : Records). is_listed r) (sym same) ∙ sym c.is_listed.ensures in
+    let low : at.n < length at.slice = omega (arith, I.few, I.long, c.requires.d_bound) in
+    elim c.if-is_listed.branch [
+      | then-is_listed z ↦
+          let x : Entry = z.entry_with.result in
+          let next : at.n + 1 ≡ suc at.n = omega arith in
+          record {
+            few = omega (arith, z.n-is, I.few);
+            long = c.if-is_listed.array_long;
+            packed = ap₂ (λ (n : ℕ) (xs : List Entry). take n xs) (z.n-is ∙ next) z.slice-is ∙ take-suc-set at.slice at.n x low
+                ∙ ap₂ (λ (xs : List Entry) (y : Entry). xs ++ (y ∷ [])) I.packed
+                (z.entry_with.ensures ∙ ap (λ (r : Records). entry_with (a.base + at.i) r) same)
+                ∙ sym (picked_turn at.i w f (told ∙ z.if-is_listed.true));
+          }
+      | else-is_listed z ↦
+          record {
+            few = omega (arith, z.n-is, I.few);
+            long = c.if-is_listed.array_long;
+            packed = ap₂ (λ (n : ℕ) (xs : List Entry). take n xs) z.n-is z.slice-is ∙ I.packed
+                ∙ sym (picked_left at.i w f (told ∙ z.if-is_listed.false));
+          }
+    ]
 
 pub returns-clause-packed : goal.returns-clause-packed
 returns-clause-packed c =
     let a = c.args in
-    let at-loop = c.loop-i in
-    let done : at-loop.i ≡ a.d = omega arith in
-    packed_all (tested a.listed) a.base (numbered a.entries.ori) (numbered a.entries.cur) a.d at-loop.i at-loop.slice done c.requires.d_bound at-loop.invariant.1.1.1.1
+    let at = c.loop-i in
+    let done : at.i ≡ a.d = omega (arith, length-take-le a.d a.entries.now (omega (arith, c.told-entries, c.requires.d_bound))) in
+    at.invariant.packed ∙ ap (λ (k : ℕ). packed k a.base a.entries.now) done

@@ -1,33 +1,47 @@
--- `shelf::fetch::fetch_blocks` meets its contract: where no array member has failed, what a read gives is what a fetch gives.
+-- `shelf::fetch::fetch_blocks` meets its contract. Where no array member has failed, what a read gives is what a fetch gives. The loop's invariant: the first j blocks that the fetch gives are put in.
 -- Assumes nothing.
-use Rattle.shelf.proofs.numbers.InputLaws.{sized}
-use mathlib.Core.Path.{◌∙◌, sym}
-use lib.Seq.{length-take-le}
+use mathlib.Core.Path.{refl, ◌∙◌, ap, subst, sym}
+use Prim.Native.Nat.{◌+◌, ◌<◌}
 use native.Mathlib.Omega.{arith}
-use Rattle.stripe.proofs.Laws.{no_products}
+use lib.ListN.{length}
+use Rattle.shelf.specs.Members.{wanted}
 use Rattle.shelf.specs.Lent.{lent, state_of}
+use Rattle.shelf.specs.below.Reading.{served_block}
 use Rattle.shelf.proofs.agreement.ReadLaws.{sound_as_fetch}
+use Rattle.shelf.proofs.general.AddressLaws.{spot_within}
+use Rattle.shelf.proofs.calls.GivenLaws.{FilledTo, filled_all, given_length, served_filled}
 use Rattle.shelf.proofs.calls.ServedLaws.{wanted-sound}
 use Rattle.shelf.proofs.fetch.fetch_blocks.Goals as goal
-
-pub array_failed-requires : goal.array_failed-requires
-array_failed-requires c = sized c.requires.ready.listing.range
 
 pub returns-then-not-array_failed : goal.returns-then-not-array_failed
 unfolding state_of
 returns-then-not-array_failed c =
-    let a = c in
-    let r = a.args.shelf in
+    let a = c.args in
     c.read_blocks.ensures
-    ∙ sound_as_fetch r.geometry (state_of (lent a.args.shelf a.args.array.now a.args.log.now a.args.list.now)) a.args.a a.args.n
-    (λ j _. wanted-sound r (omega (arith, a.requires.ready.listing.range.d_least)) (sym c.array_failed.ensures ∙ c.if-not-array_failed.true) a.args.a j)
+    ∙ sound_as_fetch a.shelf.geometry (state_of (lent a.shelf a.array.now a.log.now a.list.now)) a.a a.n
+    (λ j _. wanted-sound a.shelf (omega (arith, c.requires.ready.listing.range.d_least)) (sym c.array_failed.ensures ∙ c.if-not-array_failed.true) a.a j)
 
-pub slice_bounds-fetch_each-end : goal.slice_bounds-fetch_each-end
-slice_bounds-fetch_each-end c =
-    let a = c in
-    sym (length-take-le a.args.shelf.geometry.b _ a.requires.ready.listing.range.b_most)
+pub loop-j-preserved : goal.loop-j-preserved
+loop-j-preserved c =
+    let a = c.args in
+    let g = a.shelf.geometry in
+    let W = c.loop-j in
+    let at = c.of-spot in
+    let m = c.min-m.result in
+    let h = lent a.shelf a.array.now a.log.now a.list.now in
+    let here : W.j < a.n = c.loop-j-test.true in
+    let low = spot_within (a.a + W.j) g.d g.s at.result.x at.result.i (omega arith) at.ensures.i_value (omega (arith, c.requires.n_bound)) in
+    let all =
+    served_filled g h refl a.a a.n at.result.x at.result.i W.j at.ensures.i_value m (omega arith) (omega arith)
+    (λ k hk. given_length a.shelf a.array.now a.log.now a.list.now c.requires.ready at.result.x low (at.result.i + k) hk) W.out W.invariant.size W.invariant.filled in
+    record {
+      so_far = omega arith;
+      size = ap length c.put_blocks.ensures ∙ all.0;
+      filled = subst (FilledTo g.b (wanted g (served_block h) a.a) (W.j + m)) (sym c.put_blocks.ensures) all.1;
+    }
 
-pub fetch_each-requires-clause-working : goal.fetch_each-requires-clause-working
-fetch_each-requires-clause-working c =
-    let a = c in
-    record { ready = a.requires.ready; block = length-take-le a.args.shelf.geometry.b _ a.requires.ready.listing.range.b_most; products = no_products }
+pub returns : goal.returns
+returns c =
+    let a = c.args in
+    let W = c.loop-j in
+    filled_all a.shelf.geometry (served_block (lent a.shelf a.array.now a.log.now a.list.now)) a.a a.n W.j W.out W.invariant.size W.invariant.filled (omega arith)

@@ -1,45 +1,22 @@
--- `shelf::list::check_places` meets its contract. The loop's invariant: the places passed are without fault, and low is one above the last address.
+-- `shelf::list::check_places` meets its contract.
 -- Assumes nothing.
-use mathlib.Core.List.{List}
-use mathlib.Core.Path.{sym, ◌∙◌}
-use Prim.Native.Nat.{ℕ, zero-le}
-use native.Mathlib.Omega.{arith}
+use mathlib.Core.Bool.{Bool, ◌&&◌}
+use mathlib.Core.Path.{sym, ap, ap₂, ◌∙◌}
+use Prim.Native.Nat.{◌+◌, ◌*◌}
 use Rattle.shelf.specs.Words.{words}
-use Rattle.shelf.specs.below.Checking.{good_place}
-use Rattle.shelf.proofs.hashlist.PlaceLaws.{lowest_first, lowest-next, each_more, places_bad, places_rest}
+use Rattle.shelf.specs.below.Checking.{none_words}
+use Rattle.shelf.proofs.hashlist.PlaceLaws.{places_all}
 use Rattle.shelf.proofs.list.check_places.Goals as goal
 
-pub loop-p-init : goal.loop-p-init
-loop-p-init c =
+pub returns-then-are_good : goal.returns-then-are_good
+returns-then-are_good c =
     let a = c.args in
-    (zero-le, (lowest_first (words a.list.now) a.g.h, λ q o l. absurd (omega arith)))
+    ap₂ (λ (t u : Bool). t && u) (sym c.if-are_good.true ∙ c.are_good.ensures) c.are_none.ensures
+    ∙ places_all (words a.list.now) a.g a.next a.n c.requires.n_le_e
 
-pub returns-then-not-good_place : goal.returns-then-not-good_place
-returns-then-not-good_place c =
+pub returns-else-are_good : goal.returns-else-are_good
+returns-else-are_good c =
     let a = c.args in
-    let w : List ℕ = words a.list.now in
-    sym (places_bad w a.g a.next a.n c.requires.n_le_e c.loop-p.p c.loop-p-test.true c.good_place.result
-    c.good_place.ensures c.if-not-good_place.true)
-
-pub overflow_add-low : goal.overflow_add-low
-overflow_add-low c = omega (arith, c.address-low.ensures.upper_bound)
-
-pub loop-p-preserved : goal.loop-p-preserved
-loop-p-preserved c =
-    let a = c.args in
-    let w : List ℕ = words a.list.now in
-    let at = c.loop-p in (
-      omega arith,
-      (
-        lowest-next w a.g.h at.p c.address-low.result c.address-low.ensures.value,
-        each_more (good_place w a.g a.next a.n) 0 at.p at.invariant.1.1 (sym c.good_place.ensures ∙ c.if-not-good_place.false),
-      ),
-    )
-
-pub returns : goal.returns
-returns c =
-    let st = c in
-    let a = st.args in
-    let at = c.loop-p in
-    c.are_none.ensures
-    ∙ places_rest (words a.list.now) a.g a.next a.n st.requires.n_le_e (λ q o l. at.invariant.1.1 q o (omega arith))
+    c.if-are_good.false
+    ∙ ap (λ (t : Bool). t && none_words (words a.list.now) (a.g.h + 4 * a.n) (a.g.h + 4 * a.g.e)) (sym c.if-are_good.false ∙ c.are_good.ensures)
+    ∙ places_all (words a.list.now) a.g a.next a.n c.requires.n_le_e

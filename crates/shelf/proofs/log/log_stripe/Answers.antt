@@ -1,25 +1,32 @@
 -- `shelf::log::log_stripe` meets its contract.
 -- Assumes nothing.
-use Rattle.shelf.proofs.calls.LoggingLaws.{copyable, relistable, logs-stripe}
+use mathlib.Core.Path.{ap, ◌∙◌, subst, sym}
+use Prim.Native.Nat.{ℕ}
+use Rattle.shelf.specs.below.Entries.{records_in}
+use Rattle.shelf.specs.below.Writing.{brings, HaveRecords, new_logged}
+use Rattle.shelf.proofs.calls.LoggingLaws.{pre_records, new_records, relistable, logs-stripe}
 use Rattle.shelf.proofs.log.log_stripe.Goals as goal
 
-pub copy_blocks-requires : goal.copy_blocks-requires
-copy_blocks-requires c =
-    let st = c in
-    let a = st.args in
-    copyable a.shelf a.array.now a.log.now a.list.now a.source.now a.x a.share a.plan st.requires
+pub log_pre_read-requires-clause-records : goal.log_pre_read-requires-clause-records
+log_pre_read-requires-clause-records c =
+    let a = c.args in
+    pre_records a.shelf a.array.now a.log.now a.list.now a.share.now a.plan.now c.requires
+
+pub log_new-requires-clause-records : goal.log_new-requires-clause-records
+log_new-requires-clause-records c =
+    let a = c.args in
+    subst (λ (k : ℕ). HaveRecords a.shelf.geometry.d (brings a.share.now) (λ i. (records_in a.plan.now.entries i).cur) a.shelf.geometry.b k)
+    (sym c.log_pre_read.auto.log)
+    (new_records a.shelf a.array.now a.log.now a.list.now a.share.now a.plan.now c.requires)
 
 pub relist-n-requires : goal.relist-n-requires
 relist-n-requires c =
-    let st = c in
-    let a = st.args in
-    relistable a.shelf a.array.now a.log.now a.list.now a.source.now a.x a.share a.plan st.requires
+    let a = c.args in
+    relistable a.shelf a.array.now a.log.now a.list.now a.share.now a.plan.now c.requires
 
 pub returns : goal.returns
 returns c =
-    let st = c in
-    let a = st.args in
-    let copies = c.copy_blocks in
-    let relist = c.relist-n in
-    logs-stripe a.shelf c.logged_to.result a.array.now a.log.now a.list.now copies.new.array copies.new.log relist.new.list
-    a.source.now a.x relist.result a.share a.plan st.requires relist.ensures c.logged_to.ensures copies.ensures.array_after copies.ensures.log_after
+    let a = c.args in
+    logs-stripe a.shelf c.logged_to.result a.array.now a.log.now a.list.now c.store_new.new.array c.log_new.new.log c.relist-n.new.list
+    c.relist-n.result a.share.now a.plan.now c.requires c.relist-n.ensures c.logged_to.ensures c.store_new.ensures
+    (c.log_new.ensures ∙ ap (new_logged a.shelf.geometry a.share.now a.plan.now) c.log_pre_read.ensures)

@@ -1,14 +1,14 @@
 -- `shelf::moves::make_gap` meets its contract.
 -- Assumes nothing.
 use Rattle.shelf.specs.Words.{words}
-use Rattle.shelf.proofs.hashlist.LinkLaws.{gap_made}
+use Rattle.shelf.specs.below.Rewriting.{Up}
+use Rattle.shelf.proofs.hashlist.LinkLaws.{front_known, gap_made}
+use borrow.Author.Rules.{rules}
 use Rattle.shelf.proofs.moves.make_gap.Goals as goal
 
 pub returns : goal.returns
 returns c =
-    let st = c in
-    let a = st.args in
-    let heads = c.raise_heads in
-    let nexts = c.raise_nexts in
-    let up = c.move_up in
-    gap_made a.h a.p a.m a.c (words a.list.now) (words heads.new.list) (words nexts.new.list) (words up.new.list) st.requires.p_le_m heads.ensures nexts.ensures up.ensures
+    let a = c.args in
+    let front = c.relabel_front in
+    gap_made a.h a.p a.m a.c (words a.list.now) (words front.new.front) (words c.move_up.new.list) c.requires.p_le_m
+    (front_known _ (Up a.p a.m a.c) (λ y r z. search rules) a.h a.p _ _ front.ensures) c.move_up.ensures

@@ -9,7 +9,7 @@ use Rattle.shelf.proofs.place.put.Goals as goal
 
 pub returns : goal.returns
 returns c =
-    let st = c in
-    let a = st.args in
-    put-made a.h a.p a.a a.o a.c a.y (words a.list.now) (let k = words_long a.list.now (a.h + 4 * a.p + 3) (omega (arith, st.requires.has_place.1.1)) in omega arith)
-    c.put_words.ensures c.put_next.ensures
+    let a = c.args in
+    put-made a.h a.p a.x a.y (words a.list.now)
+    (let k = words_long a.list.now (a.h + 4 * a.p + 3) (omega (arith, c.requires.1.1)) in omega arith)
+    c.put_entry.ensures c.put_next.ensures

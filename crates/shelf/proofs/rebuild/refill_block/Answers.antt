@@ -3,29 +3,23 @@
 use Prim.Native.Nat.{ℕ, ◌<◌}
 use native.Mathlib.Omega.{arith}
 use lib.ListN.{get_or}
+use Rattle.stripe.specs.Blocks.{block}
 use Rattle.shelf.proofs.calls.RefillLaws.{still_few, refilled}
 use Rattle.shelf.proofs.calls.SourceLaws.{other_by}
-use Rattle.shelf.proofs.numbers.InputLaws.{sized}
 use Rattle.shelf.proofs.rebuild.refill_block.Goals as goal
-
-pub other_missing-y-requires : goal.other_missing-y-requires
-other_missing-y-requires c = sized c.requires.rebuildable.ready.listing.range
 
 pub solve_originals-requires-clause-recoverable : goal.solve_originals-requires-clause-recoverable
 solve_originals-requires-clause-recoverable c =
-    let a = c in
-    let p = a.requires in
+    let v = c.args.view.now in
     let y = c.other_missing-y in
-    let z = c.still_missing-z in
-    let is = other_by a.args.shelf a.args.list.now a.args.x a.args.from.missing a.args.i y.result p.working_at.sources.lacking y.ensures in
-    still_few a.args.shelf a.args.list.now a.args.x a.args.i y.result z.result is z.ensures
+    still_few v.shelf v.list.now v.x c.args.i y.result c.max.result (other_by v.shelf v.list.now v.x v.from.now.missing c.args.i y.result v.sources_told.lacking y.ensures) c.max.ensures
 
-pub returns-clause-work_after : goal.returns-clause-work_after
-returns-clause-work_after c =
-    let a = c in
+pub returns : goal.returns
+returns c =
+    let a = c.args in
+    let v = a.view.now in
     let y = c.other_missing-y in
-    let z = c.still_missing-z in
-    let solve = c.solve_originals in
-    let is = other_by a.args.shelf a.args.list.now a.args.x a.args.from.missing a.args.i y.result a.requires.working_at.sources.lacking y.ensures in
-    let bytes : (k : ℕ) → get_or a.args.array.now k 0 < 256 = λ k. omega (arith, c.shared_slice_known-1.given k) in
-    refilled a.args.shelf a.args.array.now a.args.log.now a.args.list.now a.requires.rebuildable a.args.x a.requires.working_at.stripe a.args.i a.requires.working_at.index a.requires.filled_below a.requires.lost bytes y.result z.result solve.new.work is z.ensures solve.ensures.work_after
+    let bytes : (k : ℕ) → get_or a.array.now k 0 < 256 = λ k. omega (arith, c.type_inv.array k) in
+    refilled v.shelf a.array.now v.log.now v.list.now c.requires.rebuildable v.x v.x_lt_s a.i c.requires.i_lt_d c.requires.filled_below c.requires.lost bytes y.result c.max.result
+    (block v.shelf.geometry.b 0 c.solve_originals.new.scratch.work) (other_by v.shelf v.list.now v.x v.from.now.missing a.i y.result v.sources_told.lacking y.ensures) c.max.ensures
+    c.solve_originals.ensures

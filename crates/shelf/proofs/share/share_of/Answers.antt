@@ -1,46 +1,50 @@
--- `shelf::share::share_of` meets its contract. The loop's invariant: both tables have what they should for each index passed.
+-- `shelf::share::share_of` meets its contract.
 -- Assumes nothing.
-use mathlib.Core.Path.{◌∙◌, refl}
-use lib.ListN.{length-set}
+use Rattle.std.specs.Prelude.{Option, Some, None}
+use mathlib.Core.Bool.{Bool, false, ◌&&◌}
+use mathlib.Core.List.{List}
+use mathlib.Core.Path.{◌≡◌, sym, ap, ap₂, ◌∙◌}
+use Prim.Native.Nat.{ℕ, ◌+◌, ◌*◌, ◌-◌, ◌<◌}
 use native.Mathlib.Omega.{arith}
-use Rattle.stripe.proofs.Laws.{fill_step}
-use Rattle.shelf.proofs.calls.ServedLaws.{address-low, addresses_small}
-use Rattle.shelf.proofs.calls.PlanLaws.{tests_turn}
-use mathlib.Core.Bool.{◌&&◌}
-use Prim.Native.Nat.{◌+◌, ◌*◌, ◌-◌}
 use lib.Dec.{leb, ltb}
+use lib.ListN.{length, length-set, get_or}
+use lib.Seq.{get_or-set_other}
+use borrow.Author.Count.{below_more}
+use borrow.Author.Tests.{le-leb, lt-leb, lt-ltb, le-ltb}
+use Rattle.shelf.specs.Counting.{choose}
+use Rattle.shelf.proofs.general.TestLaws.{and_false, choose_true, choose_false}
+use Rattle.shelf.proofs.calls.PlanLaws.{table_turn}
 use Rattle.shelf.proofs.share.share_of.Goals as goal
-
-pub overflow_mul-first : goal.overflow_mul-first
-overflow_mul-first c =
-    let g = c.args.g in
-    omega (arith, address-low g.d g.s c.args.x c.requires.in_range.d_most c.requires.in_range.s_most c.requires.x_lt_s)
-
-pub loop-i-init : goal.loop-i-init
-loop-i-init c = (omega arith, ((refl, refl), (λ i h. absurd (omega arith), λ i h. absurd (omega arith))))
-
-pub overflow_add-first : goal.overflow_add-first
-overflow_add-first c =
-    let a = c in
-    omega (arith, address-low a.args.g.d a.args.g.s a.args.x a.requires.in_range.d_most a.requires.in_range.s_most a.requires.x_lt_s)
-
-pub is_written-requires : goal.is_written-requires
-is_written-requires c =
-    let a = c in
-    omega (arith, addresses_small a.args.g a.requires.in_range, a.requires.n_bound)
-
-pub overflow_add-first-in-loop-i : goal.overflow_add-first-in-loop-i
-overflow_add-first-in-loop-i c =
-    let a = c in
-    omega (arith, address-low a.args.g.d a.args.g.s a.args.x a.requires.in_range.d_most a.requires.in_range.s_most a.requires.x_lt_s)
+use Rattle.shelf.proofs.share.share_of.Goals.{then-a-address+then-address-a, else-a-address, else-a-address-via-then-a-address+else-address-a, else-a-address-via-else-a-address}
 
 pub loop-i-preserved : goal.loop-i-preserved
 loop-i-preserved c =
-    let at-loop = c.loop-i in
     let a = c.args in
-    (omega arith, ((length-set at-loop.new at-loop.i c.is_written.result ∙ at-loop.invariant.1.0.0, length-set at-loop.from at-loop.i c.number_from.result ∙ at-loop.invariant.1.0.1), (tests_turn at-loop.i _ at-loop.new (λ j. leb a.a (a.x * a.g.d + j) && ltb (a.x * a.g.d + j) (a.a + a.n)) (omega arith) c.is_written.ensures at-loop.invariant.1.1.0, fill_step at-loop.from at-loop.i _ (λ j. a.x * a.g.d + j - a.a) (omega arith) at-loop.invariant.1.1.1 c.number_from.ensures)))
-
-pub returns : goal.returns
-returns c =
-    let at-loop = c.loop-i in
-    (λ i h. at-loop.invariant.1.1.0 i (omega arith), λ i h. at-loop.invariant.1.1.1 i (omega arith))
+    let at = c.loop-i in
+    let I = at.invariant in
+    let first = a.x * a.g.d in
+    let f = λ (j : ℕ). choose (leb a.a (first + j) && ltb (first + j) (a.a + a.n)) (Some (first + j - a.a)) None in
+    let low : at.i < length at.from = omega (arith, I.long, c.requires.in_range.d_most) in
+    elim c.if-a-address.branch [
+      | then-a-address+then-address-a w ↦
+          let on : Some (first + at.i - a.a) ≡ f at.i =
+          sym (choose_true _ _ None (ap₂ ◌&&◌ (le-leb a.a (first + at.i) w.if-a-address.true) (lt-ltb (first + at.i) (a.a + a.n) w.if-address-a.true))) in
+          record {
+            long = ap length w.from-is ∙ length-set at.from at.i _ ∙ I.long;
+            brought = λ j h. ap (λ (z : List (Option ℕ)). get_or z j None) w.from-is ∙ table_turn f None at.i at.from _ low on I.brought j h;
+            left = λ j h. ap (λ (z : List (Option ℕ)). get_or z j None) w.from-is ∙ get_or-set_other at.from at.i j _ None (λ u. omega arith) ∙ I.left j (omega arith);
+          }
+      | else-a-address w ↦
+          let off : (leb a.a (first + at.i) && ltb (first + at.i) (a.a + a.n)) ≡ false =
+          elim w.else-a-address.branch [
+            | else-a-address-via-then-a-address+else-address-a z ↦
+                ap (λ (t : Bool). leb a.a (first + at.i) && t) (le-ltb (first + at.i) (a.a + a.n) z.if-address-a.false) ∙ and_false (leb a.a (first + at.i))
+            | else-a-address-via-else-a-address z ↦ ap (λ (t : Bool). t && ltb (first + at.i) (a.a + a.n)) (lt-leb a.a (first + at.i) z.if-a-address.false)
+          ] in
+          record {
+            long = ap length w.from-is ∙ I.long;
+            brought = λ j h. ap (λ (z : List (Option ℕ)). get_or z j None) w.from-is
+                ∙ below_more (λ (k : ℕ). get_or at.from k None ≡ f k) at.i I.brought (I.left at.i (omega arith) ∙ sym (choose_false _ (Some (first + at.i - a.a)) None off)) j h;
+            left = λ j h. ap (λ (z : List (Option ℕ)). get_or z j None) w.from-is ∙ I.left j (omega arith);
+          }
+    ]

@@ -1,5 +1,6 @@
 -- `shelf::sources::sources_of` meets its contract.
 -- Assumes nothing.
+use Rattle.shelf.proofs.numbers.RecordLaws.{roles-tabled}
 use Rattle.shelf.proofs.calls.SourceLaws.{none-sources}
 use Rattle.shelf.proofs.sources.sources_of.Goals as goal
 
@@ -7,4 +8,7 @@ pub returns-then-shelf-eq0 : goal.returns-then-shelf-eq0
 returns-then-shelf-eq0 c =
     let st = c in
     let a = st.args in
-    none-sources a.shelf a.list.now a.x c.block_numbers-numbers.result a.lost st.requires.list_ready st.requires.x_lt_s c.if-shelf-eq0.true c.block_numbers-numbers.ensures st.requires.tests
+    let roles = c.roles.ensures in
+    let numbers = c.block_numbers-numbers in
+    let told = roles-tabled a.shelf.geometry c.roles.result roles.number_value roles.d_value roles.parities_value a.x numbers.result numbers.ensures in
+    none-sources a.shelf a.list.now a.x numbers.result a.lost st.requires.list_ready st.requires.x_lt_s c.if-shelf-eq0.true told st.requires.tests

@@ -5,16 +5,25 @@ use mathlib.Core.Path.{sym, ◌∙◌, subst}
 use Prim.Native.Nat.{ℕ, ◌+◌, ◌*◌, ◌≤◌, ◌<◌}
 use native.Mathlib.Omega.{arith}
 use lib.Dec.{ltb}
-use borrow.Author.Tests.{ltb-true, ltb-false}
+use borrow.Author.Tests.{le-ltb, ltb-true, ltb-false}
 use Rattle.shelf.specs.Words.{words}
 use Rattle.shelf.proofs.general.TestLaws.{cases}
 use Rattle.shelf.proofs.hashlist.OrderLaws.{place_within}
 use Rattle.shelf.proofs.hashlist.StaleLaws.{stale_there, stale_not}
-use Rattle.shelf.proofs.calls.ServedLaws.{address-low}
 use Rattle.shelf.proofs.stale.is_stale.Goals as goal
 
-pub overflow_mul-first : goal.overflow_mul-first
-overflow_mul-first c = let st = c in omega (arith, address-low st.args.g.d st.args.g.s st.args.x st.requires.measures.d1 st.requires.measures.s1 st.requires.x_lt_s)
+pub returns-else-p-n : goal.returns-else-p-n
+returns-else-p-n c =
+    let st = c in
+    let a = st.args in
+    let m = st.requires.measures in
+    let v = st.requires.lists in
+    let w : List ℕ = words a.list.now in
+    let p = c.first_from-p in
+    le-ltb _ _ c.if-p-n.false ∙ sym (stale_not w a.g v.next a.n m.h0 m.d0 m.e1 v.passing a.x p.result p.ensures (λ o. absurd (omega (arith, o, c.if-p-n.false))))
+
+pub address-requires : goal.address-requires
+address-requires c = let st = c in place_within st.args.list.now st.args.g st.args.n st.requires.measures st.requires.lists c.first_from-p.result c.if-p-n.true
 
 pub returns-then-p-n : goal.returns-then-p-n
 returns-then-p-n c =
@@ -24,24 +33,8 @@ returns-then-p-n c =
     let v = st.requires.lists in
     let w : List ℕ = words a.list.now in
     let p = c.first_from-p in
-    sym (stale_not w a.g v.next a.n m.h0 m.d0 m.e1 v.passing a.x p.result p.ensures (λ o. absurd (omega (arith, o, c.if-p-n.true))))
-
-pub address-requires : goal.address-requires
-address-requires c = let st = c in place_within st.args.list.now st.args.g st.args.n st.requires.measures st.requires.lists c.first_from-p.result c.if-p-n.false
-
-pub overflow_add-result : goal.overflow_add-result
-overflow_add-result c = let st = c in omega (arith, address-low st.args.g.d st.args.g.s st.args.x st.requires.measures.d1 st.requires.measures.s1 st.requires.x_lt_s, st.requires.measures.d1)
-
-pub returns : goal.returns
-returns c =
-    let st = c in
-    let a = st.args in
-    let m = st.requires.measures in
-    let v = st.requires.lists in
-    let w : List ℕ = words a.list.now in
-    let p = c.first_from-p in
     let x = c.address in
     let b : ℕ = a.x * a.g.d + a.g.d in
     cases (ltb x.result b)
-    (λ t. t ∙ sym (stale_there w a.g v.next a.n m.h0 m.d0 m.e1 v.passing a.x p.result p.ensures c.if-p-n.false (subst (λ (k : ℕ). k < b) x.ensures.value (ltb-true x.result b t))))
-    (λ t. t ∙ sym (stale_not w a.g v.next a.n m.h0 m.d0 m.e1 v.passing a.x p.result p.ensures (λ _. subst (λ (k : ℕ). b ≤ k) x.ensures.value (ltb-false x.result b t))))
+    (λ t. t ∙ sym (stale_there w a.g v.next a.n m.h0 m.d0 m.e1 v.passing a.x p.result p.ensures c.if-p-n.true (subst (λ (k : ℕ). k < b) x.ensures (ltb-true x.result b t))))
+    (λ t. t ∙ sym (stale_not w a.g v.next a.n m.h0 m.d0 m.e1 v.passing a.x p.result p.ensures (λ _. subst (λ (k : ℕ). b ≤ k) x.ensures (ltb-false x.result b t))))

@@ -20,5 +20,5 @@ returns c =
     let m = st.requires.measures in
     let v = st.requires.lists in
     let w : List ℕ = words st.args.list.now in
-    ap (λ (k : ℕ). k / st.args.g.d) c.address.ensures.value
+    ap (λ (k : ℕ). k / st.args.g.d) c.address.ensures
     ∙ lowest_first w st.args.g v.next st.args.n m.h0 m.d0 m.e1 v.passing c.if-n-eq0.false

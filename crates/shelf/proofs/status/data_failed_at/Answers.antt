@@ -1,34 +1,18 @@
--- `shelf::status::data_failed_at` meets its contract. The loop's invariant: no data block from index i on is on a failed member.
+-- `shelf::status::data_failed_at` meets its contract.
 -- Assumes nothing.
-use mathlib.Core.Bool.{false}
-use mathlib.Core.Path.{refl, sym, ◌∙◌}
-use Prim.Native.Nat.{ℕ}
+use mathlib.Core.Path.{◌∙◌, refl}
 use native.Mathlib.Omega.{arith}
-use lib.ListN.{get_or}
-use Rattle.shelf.proofs.general.WalkLaws.{any_zero, walk_hit, walk_miss}
-use Rattle.shelf.proofs.calls.RebuildLaws.{roles_any}
+use borrow.Author.Rules.{rules}
+use borrow.Author.Tests.{tests}
+use Rattle.std.proofs.lemmas.Iterator.{YieldsList-from_range}
+use Rattle.std.proofs.lemmas.Iterator.Search.{any_from_yields_List}
+use Rattle.shelf.specs.below.Records.{failed_role}
+use Rattle.shelf.proofs.numbers.ChainLaws.{any_below}
 use Rattle.shelf.proofs.status.data_failed_at.Goals as goal
-
-pub loop-i-init : goal.loop-i-init
-loop-i-init c = (omega arith, refl)
-
-pub returns-then-lost-i : goal.returns-then-lost-i
-returns-then-lost-i c =
-    let start = c in
-    let found = c.failed_roles-lost in
-    walk_hit (λ (k : ℕ). get_or found.result k false) c.loop-i.i _ refl c.loop-i-test.true c.if-lost-i.true
-    ∙ c.loop-i.invariant.1 ∙ roles_any start.args.shelf start.args.x found.result found.ensures
-
-pub loop-i-preserved : goal.loop-i-preserved
-loop-i-preserved c = (
-  omega arith,
-  walk_miss (λ (k : ℕ). get_or c.failed_roles-lost.result k false) c.loop-i.i _ refl c.loop-i-test.true c.if-lost-i.false
-      ∙ c.loop-i.invariant.1,
-)
 
 pub returns : goal.returns
 returns c =
-    let start = c in
-    let found = c.failed_roles-lost in
-    sym (any_zero c.loop-i.i (λ (k : ℕ). get_or found.result k false) (omega arith)) ∙ c.loop-i.invariant.1
-    ∙ roles_any start.args.shelf start.args.x found.result found.ensures
+    let d = c.args.shelf.geometry.d in
+    let fails = failed_role c.args.shelf c.args.x in
+    any_from_yields_List fails _ _ c.any.result c.any.ensures.ran (YieldsList-from_range 0 d d refl (omega arith)) (λ x b q k. search (rules, tests))
+    ∙ any_below fails d

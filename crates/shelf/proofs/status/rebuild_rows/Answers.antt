@@ -1,48 +1,22 @@
--- `shelf::status::rebuild_rows` meets its contract: each return is the first row that applies.
+-- `shelf::status::rebuild_rows` meets its contract: where the log is sound or nothing is listed, no block is withheld.
 -- Assumes nothing.
-use Rattle.shelf.proofs.numbers.InputLaws.{sized}
-use mathlib.Core.Bool.{not}
-use mathlib.Core.Path.{ap, ◌∙◌, refl, sym}
+use mathlib.Core.Bool.{false}
+use mathlib.Core.Path.{◌≡◌, ◌∙◌, sym}
+use native.Mathlib.Omega.{arith}
 use Rattle.shelf.specs.Lent.{flag_at, listed_by}
-use Rattle.shelf.specs.Status.{data_withheld}
-use Rattle.shelf.proofs.calls.RebuildLaws.{none_by_list, none_by_log, rows_failed, rows_sound}
-use Rattle.shelf.proofs.numbers.TableRows.{row_hit, row_pass}
+use Rattle.shelf.specs.Status.{code_of, data_withheld}
+use Rattle.shelf.proofs.calls.RebuildLaws.{none_by_list, none_by_log}
+use Rattle.shelf.proofs.numbers.RowRules.{row_rules}
 use Rattle.shelf.proofs.status.rebuild_rows.Goals as goal
-
-pub array_failed-requires : goal.array_failed-requires
-array_failed-requires c = sized c.requires.range
-
-pub returns-then-not-array_failed : goal.returns-then-not-array_failed
-returns-then-not-array_failed c =
-    let a = c in
-    rows_sound a.args.shelf a.args.list.now c.array_failed.result c.array_failed.ensures (ap not c.if-not-array_failed.true)
-
-pub log_failed-requires : goal.log_failed-requires
-log_failed-requires c = sized c.requires.range
-
-pub returns-then-not-log_failed : goal.returns-then-not-log_failed
-returns-then-not-log_failed c =
-    let a = c in
-    rows_failed a.args.shelf a.args.list.now c.array_failed.result c.array_failed.ensures (ap not c.if-not-array_failed.false) 0
-    (row_pass 14 (data_withheld a.args.shelf.geometry (flag_at a.args.shelf) (listed_by a.args.shelf.geometry a.args.list.now)) 0 0 (none_by_log a.args.shelf a.args.list.now a.requires (sym c.log_failed.ensures ∙ c.if-not-log_failed.true)) refl)
-
-pub returns-then-shelf-eq0 : goal.returns-then-shelf-eq0
-returns-then-shelf-eq0 c =
-    let a = c in
-    rows_failed a.args.shelf a.args.list.now c.array_failed.result c.array_failed.ensures (ap not c.if-not-array_failed.false) 0
-    (row_pass 14 (data_withheld a.args.shelf.geometry (flag_at a.args.shelf) (listed_by a.args.shelf.geometry a.args.list.now)) 0 0 (none_by_list a.args.shelf a.args.list.now a.requires c.if-shelf-eq0.true) refl)
-
-pub data_withheld-requires-clause-shelf_value : goal.data_withheld-requires-clause-shelf_value
-data_withheld-requires-clause-shelf_value c = sym c.log_failed.ensures ∙ c.if-not-log_failed.false
-
-pub returns-then-data_withheld : goal.returns-then-data_withheld
-returns-then-data_withheld c =
-    let a = c in
-    rows_failed a.args.shelf a.args.list.now c.array_failed.result c.array_failed.ensures (ap not c.if-not-array_failed.false) 14
-    (row_hit 14 (data_withheld a.args.shelf.geometry (flag_at a.args.shelf) (listed_by a.args.shelf.geometry a.args.list.now)) 0 (sym c.data_withheld.ensures ∙ c.if-data_withheld.true))
+use Rattle.shelf.proofs.status.rebuild_rows.Goals.{else-log_failed-via-then-log_failed+then-shelf-gt0+else-data_withheld, else-log_failed-via-then-log_failed+else-shelf-gt0, else-log_failed-via-else-log_failed}
 
 pub returns : goal.returns
+unfolding code_of
 returns c =
-    let a = c in
-    rows_failed a.args.shelf a.args.list.now c.array_failed.result c.array_failed.ensures (ap not c.if-not-array_failed.false) 0
-    (row_pass 14 (data_withheld a.args.shelf.geometry (flag_at a.args.shelf) (listed_by a.args.shelf.geometry a.args.list.now)) 0 0 (sym c.data_withheld.ensures ∙ c.if-data_withheld.false) refl)
+    let r = c.args.shelf in
+    let l = c.args.list.now in
+    let passed : data_withheld r.geometry (flag_at r) (listed_by r.geometry l) ≡ false = elim c.else-log_failed.branch [
+      | else-log_failed-via-then-log_failed+then-shelf-gt0+else-data_withheld w ↦ sym w.data_withheld.ensures ∙ w.if-data_withheld.false
+      | else-log_failed-via-then-log_failed+else-shelf-gt0 w ↦ none_by_list r l c.requires (omega arith)
+      | else-log_failed-via-else-log_failed w ↦ none_by_log r l c.requires (sym c.log_failed.ensures ∙ w.if-log_failed.false)
+    ] in grind (arith, row_rules, passed)

@@ -1,15 +1,16 @@
 -- `shelf::status::withheld_at` meets its contract.
 -- Assumes nothing.
-use mathlib.Core.Path.{◌∙◌, sym}
-use Rattle.shelf.proofs.calls.RebuildLaws.{sound_at, stale_at}
+use mathlib.Core.Bool.{true, false}
+use mathlib.Core.Path.{◌∙◌, refl, sym}
+use Rattle.shelf.proofs.calls.RebuildLaws.{withheld_both}
 use Rattle.shelf.proofs.status.withheld_at.Goals as goal
 
-pub returns-then-not-data_failed_at : goal.returns-then-not-data_failed_at
-returns-then-not-data_failed_at c =
-    let a = c in
-    sound_at a.args.shelf a.args.list.now a.requires.list_ready a.args.x (sym c.data_failed_at.ensures ∙ c.if-not-data_failed_at.true)
+pub returns-then-is_stale : goal.returns-then-is_stale
+returns-then-is_stale c =
+    let a = c.args in
+    withheld_both a.shelf a.list.now c.requires.list_ready a.x c.requires.log_lost true c.data_failed_at.result (sym c.if-is_stale.true ∙ c.is_stale.ensures) c.data_failed_at.ensures
 
-pub returns : goal.returns
-returns c =
-    let a = c in
-    stale_at a.args.shelf a.args.list.now a.requires.list_ready a.args.x a.requires.shelf_value (sym c.data_failed_at.ensures ∙ c.if-not-data_failed_at.false) c.is_stale.result c.is_stale.ensures
+pub returns-else-is_stale : goal.returns-else-is_stale
+returns-else-is_stale c =
+    let a = c.args in
+    c.if-is_stale.false ∙ withheld_both a.shelf a.list.now c.requires.list_ready a.x c.requires.log_lost false _ (sym c.if-is_stale.false ∙ c.is_stale.ensures) refl

@@ -1,20 +1,13 @@
 -- `shelf::words::put_word` meets its contract.
 -- Assumes nothing.
-use mathlib.Core.Path.{refl}
-use Prim.Native.Nat.{◌*◌}
+use mathlib.Core.Path.{◌≡◌, refl, ◌∙◌}
+use Prim.Native.Nat.{◌+◌, ◌*◌, ◌-◌}
 use native.Mathlib.Omega.{arith}
-use lib.ListN.{length-set}
 use Rattle.shelf.proofs.hashlist.WordLaws.{word_put}
 use Rattle.shelf.proofs.words.put_word.Goals as goal
 
-pub bounds-list-a-2 : goal.bounds-list-a-2
-bounds-list-a-2 c = simp length-set (omega arith)
-
-pub bounds-list-a-3 : goal.bounds-list-a-3
-bounds-list-a-3 c = simp length-set (omega arith)
-
-pub bounds-list-a-4 : goal.bounds-list-a-4
-bounds-list-a-4 c = simp length-set (omega arith)
-
 pub returns : goal.returns
-returns c = word_put c.args.list.now c.args.i (4 * c.args.i) c.args.v refl (omega arith)
+returns c =
+    let a = c.args in
+    let four : 4 * a.i + 4 - 4 * a.i ≡ 4 = omega arith in
+    rw (four, c.copy_from_slice.ensures.after ∙ c.to_le_bytes.ensures) (word_put a.list.now a.i (4 * a.i) a.v _ _ _ _ refl c.requires (omega arith))

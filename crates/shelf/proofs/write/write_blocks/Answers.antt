@@ -54,12 +54,6 @@ write_stripe-after-requires-clause-log_len c =
     let whole = stripe_asks (lent a.args.shelf a.args.array.now a.args.log.now a.args.list.now) a.args.a a.args.n a.args.source.now a.requires.range a.requires.some a.requires.long at-loop.after at-loop.array at-loop.log at-loop.list at-loop.x at-loop.invariant.1.1 at-loop.invariant.0 high under share.result share.ensures in
     whole.1
 
-pub overflow_add-x : goal.overflow_add-x
-overflow_add-x c =
-    let a = c in
-    let last = end_within a.args.shelf.geometry a.requires.range a.args.a a.args.n a.requires.some a.requires.fits in
-    omega (arith, last, c.loop-x-test.true, a.requires.range.s_most)
-
 pub loop-x-preserved : goal.loop-x-preserved
 loop-x-preserved c =
     let a = c in

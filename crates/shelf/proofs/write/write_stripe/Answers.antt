@@ -9,4 +9,4 @@ returns-then-shelf-ne1 c =
     let a = c.args in
     let m = c.write_through in
     let off = c.if-shelf-ne1.true in
-    λ s w v S H. writes_made a.shelf.geometry s a.x w v (lent m.result m.new.array a.log.now m.new.list) (other_mode a.shelf.geometry s (lent a.shelf a.array.now a.log.now a.list.now) a.x w H off) (m.ensures s w v a.log.now S H)
+    λ s w v S H. writes_made a.shelf.geometry s a.share.now.x w v (lent m.result m.new.array a.log.now m.new.list) (other_mode a.shelf.geometry s (lent a.shelf a.array.now a.log.now a.list.now) a.share.now.x w H off) (m.ensures s w v a.log.now S H)

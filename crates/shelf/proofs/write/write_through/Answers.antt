@@ -24,5 +24,5 @@ returns c =
     let W = a.requires in
     let g = a.args.shelf.geometry in
     let d = c.make_stripe-n in
-    let made = d.ensures.array_after ∙ ap (λ (z : List ℕ). parity_made (place_at g a.args.x) g.d g.parities g.b z) c.store_new.ensures in
-    λ s w v n S H. made-shows a.args.shelf a.args.list.now d.new.list a.args.x d.result W.listing W.there d.ensures.rewritten s w v a.args.source.now a.args.share a.args.array.now n S H c.drop_to.result d.new.array c.drop_to.ensures made
+    let made = d.ensures.array_after ∙ ap (λ (z : List ℕ). parity_made (place_at g a.args.share.now.x) g.d g.parities g.b z) c.store_new.ensures in
+    λ s w v n S H. made-shows a.args.shelf a.args.list.now d.new.list a.args.share.now d.result W.listing W.there d.ensures.rewritten s w v a.args.array.now n S H c.drop_to.result d.new.array c.drop_to.ensures made

@@ -1,34 +1,23 @@
--- `stripe::blocks::copy_block` meets its contract. The loop's invariant: the bytes passed are copied.
+-- `stripe::blocks::copy_block` meets its contract: what is written over is the block.
 -- Assumes nothing.
-use mathlib.Core.Path.{◌≡◌, refl, ap, ◌∙◌}
-use Prim.Native.Nat.{◌*◌, ◌-◌, zero-le}
+use mathlib.Core.List.{List, ◌++◌}
+use mathlib.Core.Path.{◌≡◌, sym, ap, ◌∙◌}
+use Prim.Native.Nat.{ℕ, ◌+◌, ◌*◌, ◌-◌}
 use native.Mathlib.Omega.{arith}
-use lib.ListN.{drop, length-set, length-drop, length}
-use lib.Seq.{paste, paste-zero}
-use borrow.Author.Rules.{rules}
+use lib.ListN.{take, drop, length}
+use lib.Seq.{take_all}
+use Rattle.std.proofs.lemmas.Slice.{put_mid-paste}
 use Rattle.stripe.specs.Blocks.{block, put}
-use Rattle.stripe.proofs.RowLaws.{copy_step}
+use Rattle.stripe.proofs.BlockLaws.{length-block}
 use Rattle.stripe.proofs.blocks.copy_block.Goals as goal
-
-pub loop-j-init : goal.loop-j-init
-loop-j-init c = (zero-le, (paste-zero c.args.dst.now (c.args.k * c.args.b) (drop (c.args.n * c.args.b) c.args.src.now), refl))
-
-pub loop-j-preserved : goal.loop-j-preserved
-loop-j-preserved c =
-    let at-loop = c in
-    let a = at-loop.args in
-    let len : length (drop (a.n * a.b) a.src.now) ≡ length a.src.now - a.n * a.b = length-drop (a.n * a.b) a.src.now in (
-      search rules,
-      (
-        copy_step a.dst.now at-loop.loop-j.dst a.src.now (a.k * a.b) (a.n * a.b) at-loop.loop-j.j at-loop.loop-j.invariant.1.0 (omega arith) (omega arith),
-        length-set at-loop.loop-j.dst _ _ ∙ at-loop.loop-j.invariant.1.1,
-      ),
-    )
 
 pub returns : goal.returns
 unfolding put block
 returns c =
-    let at-loop = c in
-    let a = at-loop.args in
-    let done : at-loop.loop-j.j ≡ a.b = omega arith in
-    at-loop.loop-j.invariant.1.0 ∙ ap (paste a.dst.now (a.k * a.b) (drop (a.n * a.b) a.src.now)) done
+    let a = c.args in
+    let b = a.b in
+    let copied = block b a.n a.src.now in
+    let len : length copied ≡ b = length-block b a.n a.src.now c.requires.from_in_bounds in
+    let size : a.n * b + b - a.n * b ≡ b = omega arith in
+    put_mid-paste (a.k * b) _ a.dst.now _ copied b (c.copy_from_slice.ensures.after ∙ ap (λ (m : ℕ). take m (drop (a.n * b) a.src.now)) size) (omega arith) (sym len)
+    ∙ ap (λ (x : List ℕ). take (a.k * b) a.dst.now ++ x ++ drop (a.k * b + b) a.dst.now) (take_all b copied (omega (arith, len)))

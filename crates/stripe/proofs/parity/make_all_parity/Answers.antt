@@ -1,7 +1,7 @@
 -- `stripe::parity::make_all_parity` meets its contract. The loop's invariant: the stripes passed have their parities made.
 -- Assumes nothing.
 use mathlib.Core.Path.{◌≡◌, refl, ap, ◌∙◌}
-use Prim.Native.Nat.{ℕ, zero-le}
+use Prim.Native.Nat.{ℕ}
 use native.Mathlib.Omega.{arith}
 use Rattle.stripe.specs.Places.{place, parity_made_all}
 use Rattle.stripe.proofs.ParityLaws.{all-step}
@@ -9,17 +9,17 @@ use Rattle.stripe.proofs.parity.make_all_parity.Goals as goal
 
 pub loop-x-init : goal.loop-x-init
 unfolding parity_made_all
-loop-x-init c = (zero-le, (refl, refl))
+loop-x-init c = refl
 
 pub loop-x-preserved : goal.loop-x-preserved
 loop-x-preserved c =
     let a = c.args in
     let at-loop = c.loop-x in
-    (omega arith, (c.array-1.given ∙ at-loop.invariant.1.0, all-step (place a.layout a.d a.parities a.stripes) a.d a.parities a.b at-loop.x a.array.now at-loop.array _ at-loop.invariant.1.1 c.make_parity.ensures))
+    all-step (place a.layout.number a.layout.d a.layout.parities a.stripes) a.layout.d a.layout.parities a.b at-loop.x a.array.now at-loop.array _ at-loop.invariant c.make_parity.ensures
 
 pub returns : goal.returns
 returns c =
     let a = c.args in
     let at-loop = c.loop-x in
     let done : at-loop.x ≡ a.stripes = omega arith in
-    at-loop.invariant.1.1 ∙ ap (λ (n : ℕ). parity_made_all n (place a.layout a.d a.parities a.stripes) a.d a.parities a.b a.array.now) done
+    at-loop.invariant ∙ ap (λ (n : ℕ). parity_made_all n (place a.layout.number a.layout.d a.layout.parities a.stripes) a.layout.d a.layout.parities a.b a.array.now) done

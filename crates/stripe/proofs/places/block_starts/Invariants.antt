@@ -1,14 +1,8 @@
 -- `stripe::places::block_starts` meets its contract. The loop's invariant: each block passed has its offset in the table.
 -- Assumes nothing.
-use mathlib.Core.Path.{◌≡◌}
-use Prim.Native.Nat.{◌-◌, ◌≤◌}
-use lib.ListN.{length}
 use Rattle.stripe.specs.Places.{offset_of}
 use Rattle.stripe.specs.below.Tables.{Tabled}
 use Rattle.stripe.proofs.places.block_starts.Given as goal
 
 abbrev pub invariant-loop-i : goal.invariant-loop-i
-invariant-loop-i l = (l.i ≤ l.n) × ((length l.starts ≡ 18) × Tabled l.i (offset_of l.ns l.b) l.starts)
-
-abbrev pub decreases-loop-i : goal.decreases-loop-i
-decreases-loop-i l = l.n - l.i
+invariant-loop-i l = Tabled l.i (offset_of l.ns l.b) l.start-items

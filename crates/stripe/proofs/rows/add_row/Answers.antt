@@ -1,21 +1,19 @@
--- `stripe::rows::add_row` meets its contract. The loop's invariant: the bytes passed have those of the source added.
+-- `stripe::rows::add_row` meets its contract. The loop's invariant: the bytes passed have those of src added.
 -- Assumes nothing.
-use Prim.Native.Nat.{◌<◌}
+use mathlib.Core.Path.{ap}
+use Prim.Native.Nat.{ℕ}
+use lib.Bits.{bit_xor}
+use lib.ListN.{get_or}
 use native.Mathlib.Omega.{arith}
-use lib.ListN.{length}
-use Rattle.stripe.specs.below.Steps.{taken, plus}
-use Rattle.stripe.proofs.RowLaws.{plus_step, filled_starts}
+use mathlib.Core.Path.{refl}
+use Rattle.stripe.specs.below.Steps.{byte, plus}
+use Rattle.stripe.proofs.Lists.{filled_next, filled_all}
 use Rattle.stripe.proofs.rows.add_row.Goals as goal
 
 pub loop-j-preserved : goal.loop-j-preserved
 loop-j-preserved c =
-    let at-loop = c.loop-j in
-    let a = c.args in
-    let long : at-loop.j < length a.work.now = omega arith in
-    (omega arith, plus_step a.src.now a.work.now at-loop.work a.at at-loop.j at-loop.invariant.1 long)
+    filled_next c.args.work.now c.loop-j.work c.loop-j.j _ (plus (byte c.args.src.now) c.args.work.now) c.loop-j.invariant c.loop-j-test.true
+    (λ e. unfold plus byte in ap (λ (x : ℕ). bit_xor x (get_or c.args.src.now c.loop-j.j 0)) e)
 
 pub returns : goal.returns
-returns c =
-    let at-loop = c.loop-j in
-    let a = c.args in
-    filled_starts a.work.now at-loop.work at-loop.j a.b (plus (taken a.at a.src.now) a.work.now) at-loop.invariant.1 (omega arith)
+returns c = filled_all c.args.work.now c.loop-j.work c.loop-j.j _ (plus (byte c.args.src.now) c.args.work.now) c.loop-j.invariant (omega arith) refl

@@ -1,12 +1,8 @@
--- `stripe::rows::double_add_row` meets its contract. The loop's invariant: the bytes passed are doubled and have those of the source added.
+-- `stripe::rows::double_add_row` meets its contract. The loop's invariant: the bytes passed are doubled and have those of src added.
 -- Assumes nothing.
-use Prim.Native.Nat.{◌-◌, ◌≤◌}
-use Rattle.stripe.specs.below.Steps.{taken, twice_plus}
+use Rattle.stripe.specs.below.Steps.{byte, twice_plus}
 use Rattle.stripe.proofs.Lists.{Filled}
 use Rattle.stripe.proofs.rows.double_add_row.Given as goal
 
 abbrev pub invariant-loop-j : goal.invariant-loop-j
-invariant-loop-j l = (l.j ≤ l.b) × Filled l.initial.work l.work l.j (twice_plus (taken l.at l.src) l.initial.work)
-
-abbrev pub decreases-loop-j : goal.decreases-loop-j
-decreases-loop-j l = l.b - l.j
+invariant-loop-j l = Filled l.initial.work l.work l.j (twice_plus (byte l.src) l.initial.work)

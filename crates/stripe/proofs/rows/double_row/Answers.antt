@@ -1,22 +1,17 @@
 -- `stripe::rows::double_row` meets its contract. The loop's invariant: the bytes passed are doubled.
 -- Assumes nothing.
-use Prim.Native.Nat.{◌<◌}
+use mathlib.Core.Path.{ap, ◌∙◌}
 use native.Mathlib.Omega.{arith}
-use lib.ListN.{length}
+use mathlib.Core.Path.{refl}
+use Rattle.field.specs.Field.{double}
 use Rattle.stripe.specs.below.Steps.{doubled}
-use Rattle.stripe.proofs.Lists.{filled_all}
-use Rattle.stripe.proofs.RowLaws.{doubled-step}
+use Rattle.stripe.proofs.Lists.{filled_next, filled_all}
 use Rattle.stripe.proofs.rows.double_row.Goals as goal
 
-pub loop-j-preserved : goal.loop-j-preserved
-loop-j-preserved c =
-    let at-loop = c.loop-j in
-    let a = c.args in
-    let long : at-loop.j < length a.work.now = omega arith in
-    (omega arith, doubled-step a.work.now at-loop.work at-loop.j c.twice.result at-loop.invariant.1 long c.twice.ensures)
+pub loop-w-preserved : goal.loop-w-preserved
+loop-w-preserved c =
+    filled_next c.args.work.now c.loop-w.work c.loop-w.w-index _ (doubled c.args.work.now) c.loop-w.invariant c.loop-w-test.true
+    (λ e. unfold doubled in (c.twice.ensures ∙ ap double e))
 
 pub returns : goal.returns
-returns c =
-    let at-loop = c.loop-j in
-    let a = c.args in
-    filled_all a.work.now at-loop.work at-loop.j a.b (doubled a.work.now) at-loop.invariant.1 (omega arith) c.requires
+returns c = filled_all c.args.work.now c.loop-w.work c.loop-w.w-index _ (doubled c.args.work.now) c.loop-w.invariant (omega arith) refl

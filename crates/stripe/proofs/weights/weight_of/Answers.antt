@@ -1,4 +1,4 @@
--- `stripe::weights::weight_of` meets its contract. The loop's invariant: after k doublings w is weight k.
+-- `stripe::weights::weight_of` meets its contract. The loop's invariant: w is the weight of as many doublings as were made.
 -- Assumes nothing.
 use mathlib.Core.Path.{sym, ap, ◌∙◌}
 use native.Mathlib.Omega.{arith}
@@ -7,15 +7,13 @@ use Rattle.field.proofs.Laws.{pow2_zero, pow2_suc}
 use Rattle.stripe.specs.Parity.{weight}
 use Rattle.stripe.proofs.weights.weight_of.Goals as goal
 
-pub loop-k-init : goal.loop-k-init
+pub loop-init : goal.loop-init
 unfolding weight
-loop-k-init c = (omega arith, sym pow2_zero)
+loop-init c = sym pow2_zero
 
-pub loop-k-preserved : goal.loop-k-preserved
+pub loop-preserved : goal.loop-preserved
 unfolding weight
-loop-k-preserved c =
-    let at-loop = c.loop-k in
-    (omega arith, c.twice-w.ensures ∙ ap double at-loop.invariant.1 ∙ sym (pow2_suc at-loop.k) ∙ ap weight (omega arith))
+loop-preserved c = c.twice-w.ensures ∙ ap double c.loop.invariant ∙ sym (pow2_suc c.loop.counter) ∙ ap weight (omega arith)
 
 pub returns : goal.returns
-returns c = c.loop-k.invariant.1 ∙ ap weight (omega arith)
+returns c = c.loop.invariant ∙ ap weight (omega arith)

@@ -1,12 +1,8 @@
--- `stripe::weights::weight_of` meets its contract. The loop's invariant: after k doublings w is weight k.
+-- `stripe::weights::weight_of` meets its contract. The loop's invariant: w is the weight of as many doublings as were made.
 -- Assumes nothing.
 use mathlib.Core.Path.{◌≡◌}
-use Prim.Native.Nat.{◌-◌, ◌≤◌}
 use Rattle.stripe.specs.Parity.{weight}
 use Rattle.stripe.proofs.weights.weight_of.Given as goal
 
-abbrev pub invariant-loop-k : goal.invariant-loop-k
-invariant-loop-k l = (l.k ≤ l.i) × (l.w ≡ weight l.k)
-
-abbrev pub decreases-loop-k : goal.decreases-loop-k
-decreases-loop-k l = l.i - l.k
+abbrev pub invariant-loop : goal.invariant-loop
+invariant-loop l = l.w ≡ weight l.counter

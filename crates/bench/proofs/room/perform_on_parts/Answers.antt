@@ -1,0 +1,45 @@
+-- `bench::room::perform_on_parts` meets its contract.
+-- Assumes nothing.
+use mathlib.Core.Path.{refl}
+use native.Mathlib.Omega.{arith}
+use Rattle.bench.proofs.BenchLaws.{fitting, rooms, part_within}
+use Rattle.bench.proofs.ServeLaws.{performed_in}
+use Rattle.bench.proofs.room.perform_on_parts.Goals as goal
+
+pub array_length-a-requires : goal.array_length-a-requires
+array_length-a-requires c = (fitting _ c.requires).0
+
+pub log_length-l-requires : goal.log_length-l-requires
+log_length-l-requires c = (fitting _ c.requires).0
+
+pub list_length-t-requires : goal.list_length-t-requires
+list_length-t-requires c = (fitting _ c.requires).0
+
+pub slice_bounds-perform-end : goal.slice_bounds-perform-end
+slice_bounds-perform-end c = omega (arith, c.array_length-a.ensures.value, (rooms _ c.requires).0)
+
+pub slice_bounds-perform-end-3 : goal.slice_bounds-perform-end-3
+slice_bounds-perform-end-3 c = omega (arith, c.log_length-l.ensures.value, (rooms _ c.requires).1.0)
+
+pub slice_bounds-perform-end-5 : goal.slice_bounds-perform-end-5
+slice_bounds-perform-end-5 c = omega (arith, c.list_length-t.ensures.value, (rooms _ c.requires).1.1)
+
+pub returns : goal.returns
+returns c =
+    let a = c.array_length-a.ensures.value in
+    let l = c.log_length-l.ensures.value in
+    let t = c.list_length-t.ensures.value in
+    let k = c.perform.auto in
+    performed_in
+    (record {
+      a_is = a;
+      l_is = l;
+      t_is = t;
+      a_kept = k.array;
+      l_kept = k.log;
+      t_kept = k.list;
+      a_room = part_within _ _ c.args.array.now a (rooms _ c.requires).0 c.told-array;
+      l_room = part_within _ _ c.args.log.now l (rooms _ c.requires).1.0 c.told-log;
+      t_room = part_within _ _ c.args.list.now t (rooms _ c.requires).1.1 c.told-list;
+    })
+    _ _ _ _ _ refl c.perform.ensures
