@@ -22,7 +22,7 @@ use Rattle.shelf.proofs.general.TestLaws.{or_true}
 use Rattle.shelf.proofs.numbers.TableRows.{row_hit, row_other}
 use Rattle.shelf.proofs.numbers.InputLaws.{in_range_lem}
 use Rattle.shelf.proofs.lent.Holding.{answered_geometry}
-use Rattle.bench.specs.Bench.{fits, data_length, first_read, Performed}
+use Rattle.bench.specs.Bench.{fits, data_length, read_call, first_read, Performed}
 
 -- ---- the shelf's buffers
 
@@ -111,33 +111,41 @@ write_as_asked h a count v code bytes h' t e x =
       | no q ↦ subst (λ (d : List ℕ). Answered h (write a count d) code h') (e ∙ simp (le-leb (count * g.b) 32768 (omega arith))) x
     ]
 
-pub read_as_asked : (h : Lent) (a count m code : ℕ) (h' : Lent) → fits h.shelf.geometry ≡ true
-    → m ≡ data_length count h.shelf.geometry.b 32768 → Answered h (read a count m) code h'
-    → Answered h (read a count (count * h.shelf.geometry.b)) code h'
-unfolding data_length rows_of code_of tries_list
-read_as_asked h a count m code h' f e x =
+-- either read tests the list, and gets 4 for its address
+read_tries : (t : Bool) (a count k : ℕ) → tries_list (read_call t a count k) ≡ true
+unfolding tries_list
+read_tries true a count k = refl
+read_tries false a count k = refl
+
+read_four : (t : Bool) (h : Lent) (a count k : ℕ) → bad_address h.shelf.geometry a count ≡ true → rows_of h (read_call t a count k) ≡ 4
+unfolding rows_of code_of
+read_four true h a count k bad = sym (row_hit 4 (bad_address h.shelf.geometry a count) _ bad)
+read_four false h a count k bad = sym (row_hit 4 (bad_address h.shelf.geometry a count) _ bad)
+
+pub read_as_asked : (t : Bool) (h : Lent) (a count m code : ℕ) (h' : Lent) → fits h.shelf.geometry ≡ true
+    → m ≡ data_length count h.shelf.geometry.b 32768 → Answered h (read_call t a count m) code h'
+    → Answered h (read_call t a count (count * h.shelf.geometry.b)) code h'
+unfolding data_length
+read_as_asked t h a count m code h' f e x =
     let g : Geometry = h.shelf.geometry in
     elim (dec_lt 32768 (count * g.b)) [
       | yes k ↦
           let bad : bad_address g a count ≡ true = few-blocks g a count f (omega arith) in
-          answered_alike h (read a count m) (read a count (count * g.b)) code h' refl refl
-          (sym (row_hit 4 (bad_address g a count) _ bad)) (sym (row_hit 4 (bad_address g a count) _ bad)) x
-      | no q ↦ subst (λ (d : ℕ). Answered h (read a count d) code h') (e ∙ simp (le-leb (count * g.b) 32768 (omega arith))) x
+          answered_alike h (read_call t a count m) (read_call t a count (count * g.b)) code h' (read_tries t a count m) (read_tries t a count (count * g.b))
+          (read_four t h a count m bad) (read_four t h a count (count * g.b) bad) x
+      | no q ↦ subst (λ (d : ℕ). Answered h (read_call t a count d) code h') (e ∙ simp (le-leb (count * g.b) 32768 (omega arith))) x
     ]
+
+-- the plain read alone, and the recovering one alone
+pub plain_as_asked : (h : Lent) (a count m code : ℕ) (h' : Lent) → fits h.shelf.geometry ≡ true
+    → m ≡ data_length count h.shelf.geometry.b 32768 → Answered h (read a count m) code h'
+    → Answered h (read a count (count * h.shelf.geometry.b)) code h'
+plain_as_asked = read_as_asked false
 
 pub fetch_as_asked : (h : Lent) (a count m code : ℕ) (h' : Lent) → fits h.shelf.geometry ≡ true
     → m ≡ data_length count h.shelf.geometry.b 32768 → Answered h (fetch a count m) code h'
     → Answered h (fetch a count (count * h.shelf.geometry.b)) code h'
-unfolding data_length rows_of code_of tries_list
-fetch_as_asked h a count m code h' f e x =
-    let g : Geometry = h.shelf.geometry in
-    elim (dec_lt 32768 (count * g.b)) [
-      | yes k ↦
-          let bad : bad_address g a count ≡ true = few-blocks g a count f (omega arith) in
-          answered_alike h (fetch a count m) (fetch a count (count * g.b)) code h' refl refl
-          (sym (row_hit 4 (bad_address g a count) _ bad)) (sym (row_hit 4 (bad_address g a count) _ bad)) x
-      | no q ↦ subst (λ (d : ℕ). Answered h (fetch a count d) code h') (e ∙ simp (le-leb (count * g.b) 32768 (omega arith))) x
-    ]
+fetch_as_asked = read_as_asked true
 
 -- ---- the geometry stays
 

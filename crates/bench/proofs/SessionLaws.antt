@@ -3,16 +3,16 @@
 use mathlib.Core.Bool.{Bool, true, false}
 use mathlib.Core.List.{List, [], ◌∷◌, ◌++◌, append_assoc, append-nil}
 use mathlib.Core.Path.{◌≡◌, refl, sym, ap, ap₂, ◌∙◌, subst}
-use Prim.Native.Nat.{ℕ, suc, ◌+◌, ◌-◌, ◌≤◌, ◌<◌}
+use Prim.Native.Nat.{ℕ, zero, suc, ◌+◌, ◌-◌, ◌≤◌, ◌<◌}
 use native.Mathlib.Numerals.{add-one}
 use native.Mathlib.Omega.{arith}
 use lib.Dec.{eqb}
 use lib.ListN.{length, take, drop, get_or, drop_of_length-le, length-append, length-drop}
-use lib.Seq.{drop-cons, length-take-le, take-append-le, take-append-add}
+use lib.Seq.{drop-cons, drop-drop, get_or-drop, take_all, length-take-le, take-append-le, take-append-add}
 use borrow.Rule.Slice.PartMut.{put_mid, post_of}
 use borrow.Author.Tests.{eq-eqb, ne_eqb}
 use Rattle.std.specs.Prelude.{Option, Some}
-use Rattle.lines.specs.Held.{Keeps, Extends, fitting}
+use Rattle.lines.specs.Held.{Keeps, Extends, ExtendsBy, fitting}
 use Rattle.lines.proofs.HeldLaws.{keeps-none, keeps_empty, keeps_request, keeps-measures}
 use Rattle.shelf.specs.Lent.{Lent}
 use Rattle.bench.specs.Sessions.{lines_from, held_after, last_line, Takes, Transcript, no_lines, one_more, closing, Ends, Closes}
@@ -107,6 +107,54 @@ so_far_byte input t s₀ h₀ at text r r' h e w more same same' =
       transcript = subst (λ (k : Lent). Transcript w.done s₀ h₀ text r'.stage k) (sym same')
           (subst (λ (k : Stage). Transcript w.done s₀ h₀ text k r.room) (sym same) w.transcript);
     }
+
+-- some bytes, none of which is a newline
+lines_past : (n : ℕ) (t xs : List ℕ) → n ≤ length xs → ((k : ℕ) → k < n → get_or xs k 0 ≡ 10 → ⊥) → lines_from t xs ≡ lines_from (t ++ take n xs) (drop n xs)
+lines_past zero t xs h f = ap (λ (ys : List ℕ). lines_from ys xs) (sym (append-nil t))
+lines_past (suc n) t [] h f = absurd (omega arith)
+lines_past (suc n) t (x ∷ xs) h f =
+    lines_by t x xs false (ne_eqb x 10 (f 0 (omega arith))) ∙ lines_past n (t ++ (x ∷ [])) xs (omega arith) (λ k l. f (suc k) (omega arith))
+    ∙ ap (λ (ys : List ℕ). lines_from ys (drop n xs)) (append_assoc t (x ∷ []) (take n xs))
+
+held_past : (n : ℕ) (t xs : List ℕ) → n ≤ length xs → ((k : ℕ) → k < n → get_or xs k 0 ≡ 10 → ⊥) → held_after t xs ≡ held_after (t ++ take n xs) (drop n xs)
+held_past zero t xs h f = ap (λ (ys : List ℕ). held_after ys xs) (sym (append-nil t))
+held_past (suc n) t [] h f = absurd (omega arith)
+held_past (suc n) t (x ∷ xs) h f =
+    held_by t x xs false (ne_eqb x 10 (f 0 (omega arith))) ∙ held_past n (t ++ (x ∷ [])) xs (omega arith) (λ k l. f (suc k) (omega arith))
+    ∙ ap (λ (ys : List ℕ). held_after ys (drop n xs)) (append_assoc t (x ∷ []) (take n xs))
+
+-- what a piece has from an index on, as it is lent
+pub rest_is : (at : ℕ) (input : List ℕ) → take (length input - at) (drop at input) ≡ drop at input
+rest_is at input = take_all (length input - at) (drop at input) (omega (arith, length-drop at input))
+
+pub taken_within : (input rest : List ℕ) (at n : ℕ) → rest ≡ drop at input → at ≤ length input → n ≤ length rest → at + n ≤ length input
+taken_within input rest at n e a h =
+    let l : length rest ≡ length (drop at input) = ap (λ (xs : List ℕ). length xs) e in
+    omega (arith, l, length-drop at input)
+
+pub so_far_bytes : (input t rest : List ℕ) (s₀ : Stage) (h₀ : Lent) (at n : ℕ) (text : List ℕ) (r r' : Session) → rest ≡ drop at input
+    → n ≤ length rest → ((k : ℕ) → k < n → get_or rest k 0 ≡ 10 → ⊥) → SoFar input t s₀ h₀ at text r → ExtendsBy r.line (take n rest) r'.line
+    → r'.stage ≡ r.stage → r'.room ≡ r.room → SoFar input t s₀ h₀ (at + n) text r'
+so_far_bytes input t rest s₀ h₀ at n text r r' e h none w more same same' =
+    let b = w.begun in
+    let behind : drop n rest ≡ drop (at + n) input = ap (λ (xs : List ℕ). drop n xs) e ∙ drop-drop n at input in
+    record {
+      done = w.done;
+      begun = b ++ take n rest;
+      keeps = more b w.keeps;
+      lines = w.lines
+          ∙ ap (λ (ls : List (List ℕ)). w.done ++ ls) (ap (lines_from b) (sym e) ∙ lines_past n b rest h none ∙ ap (λ (xs : List ℕ). lines_from (b ++ take n rest) xs) behind);
+      held = w.held ∙ ap (held_after b) (sym e) ∙ held_past n b rest h none ∙ ap (λ (xs : List ℕ). held_after (b ++ take n rest) xs) behind;
+      transcript = subst (λ (k : Lent). Transcript w.done s₀ h₀ text r'.stage k) (sym same')
+          (subst (λ (k : Stage). Transcript w.done s₀ h₀ text k r.room) (sym same) w.transcript);
+    }
+
+-- the byte behind what was taken
+pub next_newline : (input rest : List ℕ) (at n : ℕ) → rest ≡ drop at input → at + n < length input → (n < length rest → get_or rest n 0 ≡ 10)
+    → get_or input (at + n) 0 ≡ 10
+next_newline input rest at n e h is =
+    let l : length rest ≡ length (drop at input) = ap (λ (xs : List ℕ). length xs) e in
+    sym (get_or-drop at input n 0) ∙ sym (ap (λ (xs : List ℕ). get_or xs n 0) e) ∙ is (omega (arith, l, length-drop at input))
 
 -- the piece ends
 pub so_far_all : (input t : List ℕ) (s₀ : Stage) (h₀ : Lent) (at : ℕ) (text : List ℕ) (r : Session) → SoFar input t s₀ h₀ at text r → length input ≤ at

@@ -1,10 +1,10 @@
 -- The bench program's own rules: the geometry of its shelf, the room that it has, the data of a call, and what comes of a request.
 -- Assumes nothing.
-use Rattle.std.specs.Prelude.{Bool, cond, not, ◌&&◌, List, ◌≡◌, ℕ, Option, Some, None, ◌+◌, ◌*◌, eqb, leb, get_or, take, replicate}
+use Rattle.std.specs.Prelude.{Bool, true, false, cond, not, ◌&&◌, List, ◌≡◌, ℕ, Option, Some, None, ◌+◌, ◌*◌, eqb, leb, get_or, take, replicate}
 use Rattle.lines.specs.declared.measures.Measures.{Measures}
 use Rattle.lines.specs.declared.answers.Answer.{Answer}
 use Rattle.lines.specs.declared.requests.Request.{Request}
-use Rattle.shelf.specs.Status.{start, fail, write, read, fetch, resync, rebuild, new_log, full_resync}
+use Rattle.shelf.specs.Status.{Call, start, fail, write, read, fetch, resync, rebuild, new_log, full_resync}
 use Rattle.shelf.specs.Lent.{Lent, lent, bad_measures, array_length, log_length, list_length, state_of, read_buffer, fetch_buffer, Answered}
 use Rattle.shelf.specs.declared.record.Geometry.{Geometry}
 use Rattle.shelf.specs.declared.record.Shelf.{Shelf}
@@ -26,6 +26,11 @@ lent_parts r a n l = lent r (take (array_length r.geometry) a) (take (log_length
 -- how many of n bytes are lent as the data of count blocks of b bytes: all that they take, or none where n bytes are too few
 unfoldable pub data_length : ℕ → ℕ → ℕ → ℕ
 data_length count b n = cond (leb (count * b) n) (count * b) 0
+
+-- the call that reads: the plain read, or the recovering one
+abbrev pub read_call : Bool → ℕ → ℕ → ℕ → Call
+read_call false a count len = read a count len
+read_call true a count len = fetch a count len
 
 -- the first byte of what is handed over with this code; 0 where the call is refused
 unfoldable pub first_read : ℕ → List ℕ → ℕ

@@ -1,8 +1,8 @@
 // The room that the bench program has: a shelf, and buffers of 32,768 bytes for its array, its log and its list, which have no more
 // together, and for the data of a call.
-ghost use Rattle.std.specs.Prelude.{true, ◌≡◌, ◌+◌, ◌≤◌, Option};
+ghost use Rattle.std.specs.Prelude.{true, ◌≡◌, ◌+◌, ◌≤◌, [], Option, None};
 ghost use Rattle.shelf.specs.Members.{InRange};
-ghost use Rattle.shelf.specs.Lent.{Lent, array_length, log_length, list_length, formatted};
+ghost use Rattle.shelf.specs.Lent.{Lent, lent, array_length, log_length, list_length, fresh_record, formatted};
 ghost use Rattle.bench.specs.Bench.{geometry_of, fits, lent_parts, data_length, Performed};
 
 use super::calls;
@@ -44,8 +44,11 @@ impl Model for Room {
 }
 
 impl Room {
-    // The room before there is a shelf.
-    pub fn new() -> Room {
+    // The room before there is a shelf: the record is the fresh one of the geometry for none, which takes no byte of a buffer.
+    #[tactic(auto, unfolding(crate::specs::Bench::geometry_of))]
+    pub fn new() -> Room
+        ensures { result ≡ lent (fresh_record (geometry_of None)) [] [] [] }
+    {
         Room {
             shelf: Shelf::fresh(NO_GEOMETRY),
             array: [0; ROOM],

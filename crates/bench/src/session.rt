@@ -49,13 +49,15 @@ impl Session {
         ensures { Feeds input.now self.old self.new result out.new }
     {
         let mut len = 0;
-        for x in input {
-            if *x == b'\n' {
+        let mut at = 0;
+        // Each turn takes the bytes up to the next newline, however many they are.
+        while at < input.len() {
+            at += self.line.push_until(b'\n', &input[at..]);
+            if at < input.len() {
                 let end = len + 128;
                 len += self.take_line(&mut out[len..end]);
                 self.line.clear();
-            } else {
-                self.line.push(*x);
+                at += 1;
             }
         }
         len

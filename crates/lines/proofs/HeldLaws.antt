@@ -17,7 +17,7 @@ use Rattle.std.proofs.lemmas.Grind.{common_steps}
 use Rattle.lines.specs.Fields.{fields, is_digit}
 use Rattle.lines.specs.RequestLines.{request_of, request_line}
 use Rattle.lines.specs.MeasureLines.{measures_of, measures_line}
-use Rattle.lines.specs.Held.{kept_from, kept, last_zero, room, Keeps, fits, over, Extends, fitting}
+use Rattle.lines.specs.Held.{kept_from, kept, last_zero, room, Keeps, fits, over, Extends, ExtendsBy, fitting}
 use Rattle.lines.proofs.TestLaws.{and_false}
 use Rattle.lines.proofs.KeptLaws.{some-kept, next, kept_more, next_longer, kept_request, kept-measures, long_request, long-measures}
 
@@ -105,6 +105,15 @@ no_place_zero x k e = simp (e, and_false)
 -- a buffer told otherwise
 pub extends_told : {a b c d : Option (List ℕ)} {x : ℕ} → a ≡ c → b ≡ d → Extends a x b → Extends c x d
 extends_told {a} {b} {c} {d} {x} e f h = subst (λ (o : Option (List ℕ)). Extends c x o) f (subst (λ (o : Option (List ℕ)). Extends o x b) e h)
+
+-- one byte more of those that a buffer takes
+pub extends_more : {before mid after : Option (List ℕ)} (input : List ℕ) (i : ℕ) → i < length input → ExtendsBy before (take i input) mid
+    → Extends mid (get_or input i 0) after → ExtendsBy before (take (i + 1) input) after
+extends_more {before} {mid} {after} input i h a b t k =
+    let e : t ++ take (i + 1) input ≡ (t ++ take i input) ++ (get_or input i 0 ∷ []) =
+    ap (λ (n : ℕ). t ++ take n input) (add-one i) ∙ ap (λ (xs : List ℕ). t ++ xs) (take-suc input i 0 h)
+    ∙ sym (append_assoc t (take i input) (get_or input i 0 ∷ [])) in
+    subst (Keeps after) (sym e) (b (t ++ take i input) (a t k))
 
 -- what does not fit goes on not to fit
 pub extends_over : (x : ℕ) → Extends None x None

@@ -41,6 +41,10 @@ pub data Keeps (held : Option (List ℕ)) (t : List ℕ) : Type 0 where
 abbrev pub Extends : Option (List ℕ) → ℕ → Option (List ℕ) → Type 0
 Extends before x after = (t : List ℕ) → Keeps before t → Keeps after (t ++ (x ∷ []))
 
+-- it takes some bytes, one after another
+abbrev pub ExtendsBy : Option (List ℕ) → List ℕ → Option (List ℕ) → Type 0
+ExtendsBy before xs after = (t : List ℕ) → Keeps before t → Keeps after (t ++ xs)
+
 -- what is handed on as a line: all that is held, or nothing where it does not fit
 unfoldable pub fitting : Option (List ℕ) → List ℕ
 fitting (Some k) = k

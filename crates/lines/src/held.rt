@@ -1,7 +1,7 @@
 // A line that comes byte by byte, kept in 128 bytes however long it is: a zero at the start of a field makes way for a digit that follows
 // it there. A line that takes more can't be read, whatever follows. The bytes are in the line itself: nothing is on a heap.
-ghost use Rattle.std.specs.Prelude.{true, ◌≡◌, ◌≤◌, ◌↔◌, [], List, ℕ, Option, Some, IsTrue, take, length, option_map};
-ghost use Rattle.lines.specs.Held.{last_zero, Extends, fitting};
+ghost use Rattle.std.specs.Prelude.{true, ◌≡◌, ◌≢◌, ◌≤◌, ◌<◌, ◌↔◌, [], List, ℕ, Option, Some, IsTrue, take, length, slice_index, option_map};
+ghost use Rattle.lines.specs.Held.{last_zero, Extends, ExtendsBy, fitting};
 
 use std::marker::Model;
 
@@ -57,15 +57,45 @@ impl HeldLine {
     pub fn push(&mut self, x: u8)
         ensures { Extends self.old x self.new }
     {
-        let Some(n) = self.len else { return };
-        if x.is_ascii_digit() && ends_in_lone_zero(&self.bytes[..n]) {
-            self.bytes[n - 1] = x;
-        } else if n < 128 {
-            self.bytes[n] = x;
-            self.len = Some(n + 1);
-        } else {
-            self.len = None;
+        self.len = put_byte(&mut self.bytes, self.len, x);
+    }
+
+    // Takes the bytes of a piece of the input that come before the first that ends a line, or all where none does, and answers how many
+    // they are. While they come, the count of those that are kept is in a variable of its own.
+    pub fn push_until(&mut self, end: u8, input: &[u8]) -> usize
+        ensures extends { ExtendsBy self.old (take result input.now) self.new }
+        ensures upper_bound { result ≤ length input.now }
+        ensures no_end { (k : ℕ) → k < result → slice_index input.now k ≢ end }
+        ensures at_end { result < length input.now → slice_index input.now result ≡ end }
+    {
+        let mut len = self.len;
+        for (i, x) in input.iter().enumerate() {
+            if *x == end {
+                self.len = len;
+                return i;
+            }
+            len = put_byte(&mut self.bytes, len, *x);
         }
+        self.len = len;
+        input.len()
+    }
+}
+
+// Puts the next byte of a line into the bytes of which it keeps the first len, and answers how many it keeps now.
+fn put_byte(bytes: &mut [u8; 128], len: Option<usize>, x: u8) -> Option<usize>
+    requires { (n : ℕ) → len ≡ Some n → n ≤ 128 }
+    ensures extends { Extends (option_map (λ n. take n bytes.old) len) x (option_map (λ n. take n bytes.new) result) }
+    ensures upper_bound { (n : ℕ) → result ≡ Some n → n ≤ 128 }
+{
+    let Some(n) = len else { return None };
+    if ends_in_lone_zero(&bytes[..n]) && x.is_ascii_digit() {
+        bytes[n - 1] = x;
+        Some(n)
+    } else if n < 128 {
+        bytes[n] = x;
+        Some(n + 1)
+    } else {
+        None
     }
 }
 

@@ -10,7 +10,8 @@ ghost use Rattle.shelf.specs.below.Records.{failed_role};
 ghost use Rattle.shelf.specs.Lent.{lent, array_length, log_length, state_of, fetch_buffer};
 ghost use Rattle.shelf.specs.below.Reading.{Ready, ListReady, SourcesOf, solved_block, lost_block, served_block, served_to};
 
-use super::{read, record, sources};
+use super::sources::{self, Sources};
+use super::{read, record};
 use stripe::solve::{Originals, Products};
 
 // A stripe to be read, of what is lent: its number x, which of its roles are on failed members, and where its blocks are to be had. The
@@ -23,7 +24,7 @@ pub struct View<'a> {
     pub list: &'a [u8],
     pub x: usize,
     pub lost: [bool; 18],
-    pub from: &'a sources::Sources,
+    pub from: &'a Sources,
     pub ghost list_ready: { ListReady shelf list.now },
     pub ghost log_len: { length log.now ≡ log_length shelf.geometry },
     pub ghost log_bytes: { AreBytes log.now },
@@ -72,13 +73,14 @@ pub fn fetch_blocks(
     }
     let d = shelf.geometry.d;
     let mut scratch = Scratch::new();
+    let mut from = Sources::default();
     let mut j: usize = 0;
     // Each turn takes what is asked of one stripe, which at the first and the last may be less than d blocks.
     while j < n {
         let spot = read::Spot::of(a + j, d);
         let m = (d - spot.i).min(n - j);
         let lost = shelf.failed_roles(spot.x);
-        let from = sources::sources_of(shelf, list, spot.x, lost);
+        from.look_up(shelf, list, spot.x, &lost);
         let view = View {
             shelf,
             log,

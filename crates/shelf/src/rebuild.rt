@@ -11,7 +11,8 @@ ghost use Rattle.shelf.specs.below.Reading.{lost_block};
 ghost use Rattle.shelf.specs.below.Viewing.{seen};
 ghost use Rattle.shelf.specs.below.Rebuilding.{Rebuildable, Lost, FilledBelow, filled_at, filled_to, stripe_rebuilt, rebuilt_to, rebuilt_record, kept_entries};
 
-use super::{alter, fetch, record, sources};
+use super::sources::{self, Sources};
+use super::{alter, fetch, record};
 
 // Rebuilds every stripe of the array, in rising order. One working block and one table of products serve them all.
 #[tactic(auto, using(crate::proofs::calls::RefillLaws::rebuilt_start, crate::proofs::calls::RefillLaws::rebuilt_more))]
@@ -20,18 +21,21 @@ pub fn rebuild_array(shelf: record::Shelf, array: &mut [u8], log: &[u8], list: &
     ensures { array.new ≡ rebuilt_to (lent shelf array.old log.now list.now) shelf.geometry.s }
 {
     let mut scratch = fetch::Scratch::new();
+    let mut from = Sources::default();
     for x in 0..shelf.geometry.s {
-        rebuild_stripe(shelf, x, array, log, list, &mut scratch);
+        rebuild_stripe(shelf, x, array, log, list, &mut from, &mut scratch);
     }
 }
 
-// Rebuilds stripe x: fills its data blocks, then makes the parities of them where one of these was on a failed member.
+// Rebuilds stripe x: fills its data blocks, then makes the parities of them where one of these was on a failed member. Its sources are
+// looked up in from.
 fn rebuild_stripe(
     shelf: record::Shelf,
     x: usize,
     array: &mut [u8],
     log: &[u8],
     list: &[u8],
+    from: &mut Sources,
     scratch: &mut fetch::Scratch,
 )
     requires rebuildable { Rebuildable (lent shelf array.old log.now list.now) }
@@ -40,14 +44,14 @@ fn rebuild_stripe(
 {
     let g = shelf.geometry;
     let lost = shelf.failed_roles(x);
-    let from = sources::sources_of(shelf, list, x, lost);
+    from.look_up(shelf, list, x, &lost);
     let view = fetch::View {
         shelf,
         log,
         list,
         x,
         lost,
-        from: &from,
+        from,
     };
     fill_stripe(&view, array, scratch);
     if shelf.parity_failed(x) {

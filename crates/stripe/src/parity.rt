@@ -86,8 +86,10 @@ fn make_at<const K: usize>(array: &mut [u8], ns: &[usize], d: usize, b: usize)
     make_columns::<K>(array, &starts, d, b);
 }
 
-// Makes the K parities of the stripe whose blocks start at the offsets of the table starts. The
-// last chunk ends where they end, even if some of its columns are made already.
+// Makes the K parities of the stripe whose blocks start at the offsets of the table starts. The last
+// chunk ends where they end, even if some of its columns are made already. That a chunk of all columns
+// has less than 64 is not said where it is made: the compiler would sum it up by 8 bytes a step, and P
+// and Q of blocks of 16 to 63 bytes would take up to 1.6 times as long.
 fn make_columns<const K: usize>(array: &mut [u8], starts: &[usize], d: usize, b: usize)
     requires roles { Roles d K }
     requires b_bound { b ≤ 4096 }
@@ -98,10 +100,12 @@ fn make_columns<const K: usize>(array: &mut [u8], starts: &[usize], d: usize, b:
     for chunk in 0..b / 64 {
         make_chunk::<K>(array, starts, d, 64 * chunk, 64);
     }
-    if b < 64 {
-        make_chunk::<K>(array, starts, d, 0, b);
-    } else if b % 64 != 0 {
-        make_chunk::<K>(array, starts, d, b - 64, 64);
+    if b % 64 != 0 {
+        if b > 64 {
+            make_chunk::<K>(array, starts, d, b - 64, 64);
+        } else {
+            make_chunk::<K>(array, starts, d, 0, b);
+        }
     }
 }
 

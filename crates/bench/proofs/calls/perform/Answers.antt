@@ -5,7 +5,7 @@ use native.Mathlib.Omega.{arith}
 use lib.ListN.{replicate}
 use lib.Seq.{length-take-le}
 use Rattle.bench.specs.Bench.{Performed}
-use Rattle.bench.proofs.BenchLaws.{first_found, write_as_asked, read_as_asked, fetch_as_asked}
+use Rattle.bench.proofs.BenchLaws.{first_found, write_as_asked, plain_as_asked, fetch_as_asked}
 use Rattle.bench.proofs.calls.perform.Goals as goal
 
 pub returns-in-Start : goal.returns-in-Start
@@ -26,7 +26,7 @@ returns-in-Read c =
     let d = c.data_length-in-Read in
     let long = length-take-le d.result c.args.bytes.now (omega (arith, d.ensures.upper_bound, c.told-bytes)) in
     rw (c.in-Read.is, c.outcome_of_read.ensures) (
-      read_as_asked _ _ _ _ _ _ c.requires (long ∙ d.ensures.value) c.shelf_read-a.ensures.answered,
+      plain_as_asked _ _ _ _ _ _ c.requires (long ∙ d.ensures.value) c.shelf_read-a.ensures.answered,
       first_found _ _ _ c.shelf_read-a.ensures.out_after,
     )
 

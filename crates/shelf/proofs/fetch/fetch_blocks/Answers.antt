@@ -1,7 +1,8 @@
 -- `shelf::fetch::fetch_blocks` meets its contract. Where no array member has failed, what a read gives is what a fetch gives. The loop's invariant: the first j blocks that the fetch gives are put in.
 -- Assumes nothing.
 use mathlib.Core.Path.{refl, ◌∙◌, ap, subst, sym}
-use Prim.Native.Nat.{◌+◌, ◌<◌}
+use Prim.Native.Nat.{◌+◌, ◌≤◌, ◌<◌}
+use native.Mathlib.Nat.{mul-le-mul_right}
 use native.Mathlib.Omega.{arith}
 use lib.ListN.{length}
 use Rattle.shelf.specs.Members.{wanted}
@@ -20,6 +21,14 @@ returns-then-not-array_failed c =
     c.read_blocks.ensures
     ∙ sound_as_fetch a.shelf.geometry (state_of (lent a.shelf a.array.now a.log.now a.list.now)) a.a a.n
     (λ j _. wanted-sound a.shelf (omega (arith, c.requires.ready.listing.range.d_least)) (sym c.array_failed.ensures ∙ c.if-not-array_failed.true) a.a j)
+
+pub put_blocks-requires-clause-b_in_bounds : goal.put_blocks-requires-clause-b_in_bounds
+put_blocks-requires-clause-b_in_bounds c =
+    let a = c.args in
+    let W = c.loop-j in
+    let m = c.min-m.result in
+    let within : W.j + m ≤ a.n = omega (arith, c.min-m.ensures) in
+    omega (arith, W.invariant.size, mul-le-mul_right a.shelf.geometry.b within)
 
 pub loop-j-preserved : goal.loop-j-preserved
 loop-j-preserved c =

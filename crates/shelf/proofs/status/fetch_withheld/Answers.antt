@@ -1,23 +1,30 @@
--- `shelf::status::fetch_withheld` meets its contract.
+-- `shelf::status::fetch_withheld` meets its contract. The loop's invariant: no block from the j-th on is withheld.
 -- Assumes nothing.
-use mathlib.Core.Path.{◌∙◌, refl}
-use Prim.Native.Nat.{ℕ, ◌+◌, ◌/◌, ◌%◌}
+use mathlib.Core.Path.{sym, ◌∙◌}
 use native.Mathlib.Omega.{arith}
-use borrow.Author.Rules.{rules}
-use borrow.Author.Tests.{tests}
-use Rattle.std.proofs.lemmas.Iterator.{YieldsList-from_range}
-use Rattle.std.proofs.lemmas.Iterator.Search.{any_from_yields_List}
+use Rattle.shelf.specs.Members.{wanted}
 use Rattle.shelf.specs.Lent.{flag_at, listed_by}
 use Rattle.shelf.specs.Status.{withheld}
-use Rattle.shelf.proofs.numbers.ChainLaws.{any_range}
+use Rattle.shelf.proofs.general.WalkLaws.{any_zero, walk_hit, walk_miss}
 use Rattle.shelf.proofs.status.fetch_withheld.Goals as goal
+
+pub returns-then-withheld : goal.returns-then-withheld
+returns-then-withheld c =
+    let a = c.args in
+    let r = a.shelf in
+    let at = c.loop-j in
+    walk_hit (wanted r.geometry (withheld r.geometry (flag_at r) (listed_by r.geometry a.list.now)) a.a) at.j c.withheld.result c.withheld.ensures (omega arith) c.if-withheld.true ∙ at.invariant
+
+pub loop-j-preserved : goal.loop-j-preserved
+loop-j-preserved c =
+    let a = c.args in
+    let r = a.shelf in
+    let at = c.loop-j in
+    walk_miss (wanted r.geometry (withheld r.geometry (flag_at r) (listed_by r.geometry a.list.now)) a.a) at.j c.withheld.result c.withheld.ensures (omega arith) c.if-withheld.false ∙ at.invariant
 
 pub returns : goal.returns
 returns c =
-    let r = c.args.shelf in
-    let a = c.args.a in
-    let n = c.args.n in
-    let d = r.geometry.d in
-    let held = λ (k : ℕ). withheld r.geometry (flag_at r) (listed_by r.geometry c.args.list.now) (k / d) (k % d) in
-    any_from_yields_List held _ _ c.any.result c.any.ensures.ran (YieldsList-from_range a (a + n) n refl (omega arith)) (λ x b q k. search (rules, tests))
-    ∙ any_range held a n
+    let a = c.args in
+    let r = a.shelf in
+    let at = c.loop-j in
+    sym (sym at.invariant ∙ any_zero at.j (wanted r.geometry (withheld r.geometry (flag_at r) (listed_by r.geometry a.list.now)) a.a) (omega arith))

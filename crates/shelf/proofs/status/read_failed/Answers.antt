@@ -1,21 +1,26 @@
--- `shelf::status::read_failed` meets its contract.
+-- `shelf::status::read_failed` meets its contract. The loop's invariant: no block from the j-th on is on a failed disk.
 -- Assumes nothing.
-use mathlib.Core.Path.{◌∙◌, refl}
-use Prim.Native.Nat.{ℕ, ◌+◌, ◌/◌, ◌%◌}
+use mathlib.Core.Path.{sym, ◌∙◌}
 use native.Mathlib.Omega.{arith}
-use borrow.Author.Rules.{rules}
-use borrow.Author.Tests.{tests}
-use Rattle.std.proofs.lemmas.Iterator.{YieldsList-from_range}
-use Rattle.std.proofs.lemmas.Iterator.Search.{any_from_yields_List}
+use Rattle.shelf.specs.Members.{wanted}
 use Rattle.shelf.specs.below.Records.{failed_role}
-use Rattle.shelf.proofs.numbers.ChainLaws.{any_range}
+use Rattle.shelf.proofs.general.WalkLaws.{any_zero, walk_hit, walk_miss}
 use Rattle.shelf.proofs.status.read_failed.Goals as goal
+
+pub returns-then-role_failed : goal.returns-then-role_failed
+returns-then-role_failed c =
+    let a = c.args in
+    let at = c.loop-j in
+    walk_hit (wanted a.shelf.geometry (failed_role a.shelf) a.a) at.j c.role_failed.result c.role_failed.ensures (omega arith) c.if-role_failed.true ∙ at.invariant
+
+pub loop-j-preserved : goal.loop-j-preserved
+loop-j-preserved c =
+    let a = c.args in
+    let at = c.loop-j in
+    walk_miss (wanted a.shelf.geometry (failed_role a.shelf) a.a) at.j c.role_failed.result c.role_failed.ensures (omega arith) c.if-role_failed.false ∙ at.invariant
 
 pub returns : goal.returns
 returns c =
-    let a = c.args.a in
-    let n = c.args.n in
-    let d = c.args.shelf.geometry.d in
-    let fails = λ (k : ℕ). failed_role c.args.shelf (k / d) (k % d) in
-    any_from_yields_List fails _ _ c.any.result c.any.ensures.ran (YieldsList-from_range a (a + n) n refl (omega arith)) (λ x b q k. search (rules, tests))
-    ∙ any_range fails a n
+    let a = c.args in
+    let at = c.loop-j in
+    sym (sym at.invariant ∙ any_zero at.j (wanted a.shelf.geometry (failed_role a.shelf) a.a) (omega arith))

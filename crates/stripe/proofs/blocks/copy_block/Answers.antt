@@ -19,5 +19,5 @@ returns c =
     let copied = block b a.n a.src.now in
     let len : length copied ≡ b = length-block b a.n a.src.now c.requires.from_in_bounds in
     let size : a.n * b + b - a.n * b ≡ b = omega arith in
-    put_mid-paste (a.k * b) _ a.dst.now _ copied b (c.copy_from_slice.ensures.after ∙ ap (λ (m : ℕ). take m (drop (a.n * b) a.src.now)) size) (omega arith) (sym len)
+    put_mid-paste (a.k * b) _ a.dst.now _ copied b (c.copy_row.ensures ∙ ap (λ (m : ℕ). take m (drop (a.n * b) a.src.now)) size) (omega arith) (sym len)
     ∙ ap (λ (x : List ℕ). take (a.k * b) a.dst.now ++ x ++ drop (a.k * b + b) a.dst.now) (take_all b copied (omega (arith, len)))
